@@ -1,0 +1,74 @@
+-- The cycle account: what an instruction is charged, by its predecessor, and in which cycle it is due. From the plain history alone.
+use Prim.Native.Nat.{ℕ, zero, suc, _+_}
+use mathlib.Core.Bool.{Bool, cond, not, _&&_}
+use mathlib.Core.List.{List, [], _∷_, _++_}
+use lib.Dec.{eqb}
+use Rattle.machine.specs.Types.{Instruction, Accessed, Retired, Kept, noneKept, lastKept, Kinds}
+use Rattle.machine.specs.Table.{is, jump, ret}
+use Rattle.machine.specs.Prediction.{Settings, mispredicted, loadUse}
+use Rattle.machine.specs.Plain.{Plain, fetched, accessed, steps}
+
+-- why an instruction is charged
+pub data Reason : Type 0 where
+  free waited wronglyGuessed returned : Reason
+
+-- "Charge of instruction k ≥ 2, by its predecessor: 1 if that loads a register among k's sources; 2 if it was a conditional jump not
+-- taken; 3 if ret; else 0."
+unfoldable pub reasonBehind : Settings → Retired → Instruction → Reason
+reasonBehind g k j =
+    let i = k .instruction in
+    cond (loadUse g i j) waited
+    (cond (mispredicted g i (k .holds) && not (eqb (i .function) 0)) wronglyGuessed
+    (cond (is ret i) returned free))
+
+unfoldable pub amount : Reason → ℕ
+amount free = 0
+amount waited = 1
+amount wronglyGuessed = 2
+amount returned = 3
+
+-- "The cycle counts kept by kind sum the charges" "(a return adds 3)"
+unfoldable pub noKinds : Kinds
+noKinds = record { loaduse = 0; mispredict = 0; returned = 0 }
+
+unfoldable pub counted : Kinds → Reason → Kinds
+counted t free = t
+counted t waited = record { loaduse = t .loaduse + 1; mispredict = t .mispredict; returned = t .returned }
+counted t wronglyGuessed = record { loaduse = t .loaduse; mispredict = t .mispredict + 2; returned = t .returned }
+counted t returned = record { loaduse = t .loaduse; mispredict = t .mispredict; returned = t .returned + 3 }
+
+-- "the record keeps the last instruction retired with AOK"
+unfoldable pub retiredOf : Accessed → Retired
+retiredOf w = record { instruction = w .instruction; holds = w .holds }
+
+-- "with none kept, the next one retired is charged 0"
+unfoldable pub reasonFrom : Settings → Kept → Instruction → Reason
+reasonFrom g noneKept j = free
+reasonFrom g (lastKept k) j = reasonBehind g k j
+
+-- the reason of instruction k of the plain history from s, counted from 1; "Instruction 1 has charge 0."
+unfoldable pub reasonOf : Settings → Plain → ℕ → Reason
+reasonOf g s zero = free
+reasonOf g s (suc zero) = free
+reasonOf g s (suc (suc n)) = reasonBehind g (retiredOf (accessed (steps s n))) (fetched (steps s (suc n)))
+
+unfoldable pub charge : Settings → Plain → ℕ → ℕ
+charge g s k = amount (reasonOf g s k)
+
+-- the charges of instructions 1 to k, in all and by kind
+unfoldable pub charges : Settings → Plain → ℕ → ℕ
+charges g s zero = 0
+charges g s (suc k) = charges g s k + charge g s (suc k)
+
+unfoldable pub kindsOf : Settings → Plain → ℕ → Kinds
+kindsOf g s zero = noKinds
+kindsOf g s (suc k) = counted (kindsOf g s k) (reasonOf g s (suc k))
+
+-- "the k-th in cycle k + 4 plus the charges of instructions 1 to k"
+unfoldable pub due : Settings → Plain → ℕ → ℕ
+due g s k = k + 4 + charges g s k
+
+-- the cycles in which instructions 1 to k are due, in order
+unfoldable pub dueCycles : Settings → Plain → ℕ → List ℕ
+dueCycles g s zero = []
+dueCycles g s (suc k) = dueCycles g s k ++ due g s (suc k) ∷ []

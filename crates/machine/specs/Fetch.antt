@@ -1,0 +1,64 @@
+-- Fetching an instruction: its own bytes alone decide.
+use Prim.Native.Nat.{ℕ, _+_, _-_, _/_, _%_}
+use mathlib.Core.Bool.{Bool, true, false, cond, not, _&&_}
+use mathlib.Core.List.{List, [], _∷_}
+use lib.Dec.{ltb, leb, eqb}
+use lib.ListN.{length, getD, take, drop}
+use Rattle.machine.specs.Types.{Instruction, Status, aok, hlt, adr, ins}
+use Rattle.machine.specs.Words.{sum, number}
+use Rattle.machine.specs.Memory.{Memory}
+use Rattle.machine.specs.Table.{rowOf, RegisterByte, noByte, bothNamed, onlyB, onlyA}
+
+-- the table length of the instruction at a, by the code in its first byte
+unfoldable pub sizeAt : Memory → ℕ → ℕ
+sizeAt m a = rowOf (getD m a 0 / 16) .size
+
+-- "An instruction's bytes are its table length from its address, cut at N."
+unfoldable pub ownBytes : Memory → ℕ → List ℕ
+ownBytes m a = take (sizeAt m a) (drop a m)
+
+-- "An instruction fetched with status not AOK travels as a nop with that status; its predicted address is its own."
+unfoldable pub stopping : ℕ → Status → Instruction
+stopping a s = record { address = a; status = s; code = 1; function = 0; ra = 15; rb = 15; constant = 0; next = a }
+
+-- "a named register" is not 15, and "a filler" is F
+unfoldable pub halvesFit : RegisterByte → ℕ → ℕ → Bool
+halvesFit noByte a b = true
+halvesFit bothNamed a b = ltb a 15 && ltb b 15
+halvesFit onlyB a b = eqb a 15 && ltb b 15
+halvesFit onlyA a b = ltb a 15 && eqb b 15
+
+-- "Fetch checks in order: first byte outside memory, ADR; code or function not in the table, INS; a later byte outside memory, ADR;
+-- a named register that is 15, or a filler that isn't F, INS. Only then is 0x00 HLT."
+unfoldable pub checked : (firstMissing noFunction laterMissing misnamed halts : Bool) → Instruction → Instruction
+checked true f l r h i = stopping (i .address) adr
+checked false true l r h i = stopping (i .address) ins
+checked false false true r h i = stopping (i .address) adr
+checked false false false true h i = stopping (i .address) ins
+checked false false false false true i = stopping (i .address) hlt
+checked false false false false false i = i
+
+-- a half of the register byte, or 15, "none", where there is no such byte
+unfoldable pub half : RegisterByte → ℕ → ℕ
+half noByte x = 15
+half bothNamed x = x
+half onlyB x = x
+half onlyA x = x
+
+-- "an 8-byte constant C": the last eight bytes of an instruction that is longer than that
+unfoldable pub constantIn : List ℕ → ℕ → ℕ
+constantIn bytes size = cond (ltb 8 size) (number 8 bytes (size - 8)) 0
+
+-- "First byte is code and function; then, by code, a register byte rA:rB and an 8-byte constant C."
+unfoldable pub parsed : ℕ → List ℕ → Instruction
+parsed a bytes =
+    let code = getD bytes 0 0 / 16 in
+    let function = getD bytes 0 0 % 16 in
+    let row = rowOf code in
+    let x = half (row .byte) (getD bytes 1 0 / 16) in
+    let y = half (row .byte) (getD bytes 1 0 % 16) in
+    checked (eqb (length bytes) 0) (leb (row .functions) function) (ltb (length bytes) (row .size)) (not (halvesFit (row .byte) x y)) (eqb code 0)
+    (record { address = a; status = aok; code = code; function = function; ra = x; rb = y; constant = constantIn bytes (row .size); next = sum a (row .size) })
+
+unfoldable pub fetch : Memory → ℕ → Instruction
+fetch m a = parsed a (ownBytes m a)

@@ -1,0 +1,35 @@
+-- Memory and the register file.
+use Prim.Native.Nat.{ℕ, _+_}
+use mathlib.Core.Bool.{Bool, cond}
+use mathlib.Core.List.{List}
+use lib.Dec.{ltb}
+use lib.ListN.{length, getD, set}
+use Rattle.machine.specs.Words.{number, placed}
+
+-- "Memory is N lent bytes": a list of numbers below 256
+abbrev pub Memory : Type 0
+Memory = List ℕ
+
+-- "Fifteen registers of 64 bits, 0 to 14"
+abbrev pub Registers : Type 0
+Registers = List ℕ
+
+-- "A word at address a is inside exactly when a + 7, without wrapping, is below N"
+unfoldable pub inside : Memory → ℕ → Bool
+inside m a = ltb (a + 7) (length m)
+
+-- the word at a; "A load outside memory reads 0"
+unfoldable pub load : Memory → ℕ → ℕ
+load m a = cond (inside m a) (number 8 m a) 0
+
+-- memory with the word v at a; "a store outside writes nothing"
+unfoldable pub store : Memory → ℕ → ℕ → Memory
+store m a v = cond (inside m a) (placed 8 m a v) m
+
+-- "Register 15 as a source reads 0"
+unfoldable pub value : Registers → ℕ → ℕ
+value r q = cond (ltb q 15) (getD r q 0) 0
+
+-- "as a target it writes nothing"
+unfoldable pub written : Registers → ℕ → ℕ → Registers
+written r q v = cond (ltb q 15) (set r q v) r

@@ -1,0 +1,256 @@
+-- The pipelined engine, one clock at a time.
+use Prim.Native.Nat.{ℕ, zero, suc, _+_}
+use mathlib.Core.Bool.{Bool, true, false, cond, _||_}
+use mathlib.Core.List.{List, [], _∷_, _++_}
+use Rattle.machine.specs.Types.{Pipeline, Instruction, Decoded, Executed, Accessed, Codes, Status, aok, isBad, StageD, bubbleD, inD, StageE, bubbleE, inE, StageM, bubbleM, inM, StageW, bubbleW, inW, Kept, noneKept, lastKept, Kinds}
+use Rattle.machine.specs.Memory.{Memory, Registers, value}
+use Rattle.machine.specs.Table.{is, ret}
+use Rattle.machine.specs.Fetch.{fetch}
+use Rattle.machine.specs.Stages.{decode, execute, access, newCodes, newMemory, newRegisters, resultTarget, loadedTarget, turned}
+use Rattle.machine.specs.Prediction.{Settings, predictedNext, mispredicted, meets, loadUse}
+use Rattle.machine.specs.Charges.{noKinds, counted, retiredOf, reasonFrom}
+
+-- the record, its memory, and what has been logged of each retirement so far: its address and its cycle
+pub record Piped : Type 0 where
+  pub pipeline : Pipeline
+  pub memory : Memory
+  pub addresses : List ℕ
+  pub cycles : List ℕ
+
+-- "At a fresh start F holds the start address and the rest are bubbles."
+unfoldable pub pipeStart : Registers → Codes → ℕ → Pipeline
+pipeStart r c a =
+    record {
+      predicted = a;
+      d = bubbleD;
+      e = bubbleE;
+      m = bubbleM;
+      w = bubbleW;
+      registers = r;
+      codes = c;
+      status = aok;
+      last = a;
+      retired = 0;
+      cycles = 0;
+      kinds = noKinds;
+      kept = noneKept;
+    }
+
+abbrev pub pipedOf : Pipeline → Memory → Piped
+pipedOf k m = record { pipeline = k; memory = m; addresses = []; cycles = [] }
+
+-- THE WORK OF A STAGE IN A CLOCK
+-- what E's instruction is after execution, on the codes as the clock began
+unfoldable pub afterE : StageE → Codes → StageM
+afterE bubbleE c = bubbleM
+afterE (inE x) c = inM (execute x c)
+
+-- what M's instruction is after its access: "Memory is read before the clock's write."
+unfoldable pub afterM : StageM → Memory → StageW
+afterM bubbleM m = bubbleW
+afterM (inM x) m = inW (access x m)
+
+unfoldable pub codesAfter : StageE → Codes → Codes
+codesAfter bubbleE c = c
+codesAfter (inE x) c = newCodes x c
+
+unfoldable pub memoryAfter : StageM → Memory → Memory
+memoryAfter bubbleM m = m
+memoryAfter (inM x) m = newMemory x m
+
+unfoldable pub registersAfter : StageW → Registers → Registers
+registersAfter bubbleW r = r
+registersAfter (inW w) r = newRegisters w r
+
+-- SOURCES
+-- forwarded past the result alone of an instruction, and past its loaded word and its result: v is what lies behind
+unfoldable pub pastResult : StageM → ℕ → ℕ → ℕ
+pastResult bubbleM q v = v
+pastResult (inM x) q v = cond (meets (resultTarget (x .instruction) (x .holds)) q) (x .result) v
+
+unfoldable pub pastBoth : StageW → ℕ → ℕ → ℕ
+pastBoth bubbleW q v = v
+pastBoth (inW w) q v = cond (meets (loadedTarget (w .instruction)) q) (w .word) (cond (meets (resultTarget (w .instruction) (w .holds)) q) (w .result) v)
+
+-- "Decode takes a source from the first match of: result in E, word loaded in M, result in M, word loaded in W, result in W, register file."
+unfoldable pub sourceW : Piped → ℕ → ℕ
+sourceW p q = pastBoth (p .pipeline .w) q (value (p .pipeline .registers) q)
+
+unfoldable pub sourceM : Piped → ℕ → ℕ
+sourceM p q = pastBoth (afterM (p .pipeline .m) (p .memory)) q (sourceW p q)
+
+unfoldable pub source : Piped → ℕ → ℕ
+source p q = pastResult (afterE (p .pipeline .e) (p .pipeline .codes)) q (sourceM p q)
+
+-- SIGNALS
+-- "load-use (mrmovq or popq in E whose loaded register is a source in D)"
+unfoldable pub waitsBehind : Settings → StageE → StageD → Bool
+waitsBehind g bubbleE d = false
+waitsBehind g (inE x) bubbleD = false
+waitsBehind g (inE x) (inD j) = loadUse g (x .instruction) j
+
+unfoldable pub waits : Settings → Piped → Bool
+waits g p = waitsBehind g (p .pipeline .e) (p .pipeline .d)
+
+-- an executed jump that was guessed wrongly
+unfoldable pub wrong : Settings → StageM → Bool
+wrong g bubbleM = false
+wrong g (inM x) = mispredicted g (x .instruction) (x .holds)
+
+-- "misprediction (jXX in E, condition false)"
+unfoldable pub mispredicts : Settings → Piped → Bool
+mispredicts g p = wrong g (afterE (p .pipeline .e) (p .pipeline .codes))
+
+unfoldable pub retInD : StageD → Bool
+retInD bubbleD = false
+retInD (inD i) = is ret i
+
+unfoldable pub retInE : StageE → Bool
+retInE bubbleE = false
+retInE (inE x) = is ret (x .instruction)
+
+unfoldable pub retInM : StageM → Bool
+retInM bubbleM = false
+retInM (inM x) = is ret (x .instruction)
+
+-- "ret in D, E or M"
+unfoldable pub returns : Piped → Bool
+returns p = retInD (p .pipeline .d) || (retInE (p .pipeline .e) || retInM (p .pipeline .m))
+
+unfoldable pub badInW : StageW → Bool
+badInW bubbleW = false
+badInW (inW w) = isBad (w .status)
+
+-- "bad status in M, after its access"
+unfoldable pub fails : Piped → Bool
+fails p = badInW (afterM (p .pipeline .m) (p .memory))
+
+-- THE FETCH ADDRESS
+-- "else if W holds ret, the word it read; else the predicted one"
+unfoldable pub returnedTo : StageW → ℕ → ℕ
+returnedTo bubbleW f = f
+returnedTo (inW w) f = cond (is ret (w .instruction)) (w .word) f
+
+-- "if M holds a jump whose condition was false, that jump's next address"
+unfoldable pub mended : Settings → StageM → ℕ → ℕ
+mended g bubbleM f = f
+mended g (inM x) f = cond (mispredicted g (x .instruction) (x .holds)) (turned (x .instruction) (x .holds)) f
+
+unfoldable pub fetchAddress : Settings → Piped → ℕ
+fetchAddress g p = mended g (p .pipeline .m) (returnedTo (p .pipeline .w) (p .pipeline .predicted))
+
+unfoldable pub fetchedNow : Settings → Piped → Instruction
+fetchedNow g p = fetch (p .memory) (fetchAddress g p)
+
+-- CONTROLS AT THE END OF A CLOCK
+-- F: held for load-use and for ret
+unfoldable pub nextF : Settings → Piped → ℕ
+nextF g p = cond (waits g p || returns p) (p .pipeline .predicted) (predictedNext g (fetchedNow g p))
+
+-- D: a bubble for misprediction; held for load-use; a bubble for ret
+unfoldable pub nextD : Settings → Piped → StageD
+nextD g p = cond (mispredicts g p) bubbleD (cond (waits g p) (p .pipeline .d) (cond (returns p) bubbleD (inD (fetchedNow g p))))
+
+unfoldable pub decodedD : Piped → StageD → StageE
+decodedD p bubbleD = bubbleE
+decodedD p (inD i) = inE (decode i (source p))
+
+-- E: a bubble for misprediction and for load-use
+unfoldable pub nextE : Settings → Piped → StageE
+nextE g p = cond (mispredicts g p || waits g p) bubbleE (decodedD p (p .pipeline .d))
+
+-- M: "bad status in M, after its access: bubble into M."
+unfoldable pub nextM : Piped → StageM
+nextM p = cond (fails p) bubbleM (afterE (p .pipeline .e) (p .pipeline .codes))
+
+-- "Then, or with bad status in W, OPq in E sets no codes." With bad status in W nothing below is done at all
+unfoldable pub nextCodes : Piped → Codes
+nextCodes p = cond (fails p) (p .pipeline .codes) (codesAfter (p .pipeline .e) (p .pipeline .codes))
+
+-- RETIREMENT
+-- "An instruction retires in the clock in which it stands in W."
+unfoldable pub lastAfter : StageW → ℕ → ℕ
+lastAfter bubbleW a = a
+lastAfter (inW w) a = w .instruction .address
+
+unfoldable pub retiredAfter : StageW → ℕ → ℕ
+retiredAfter bubbleW n = n
+retiredAfter (inW w) n = n + 1
+
+unfoldable pub kindsAfter : Settings → StageW → Kept → Kinds → Kinds
+kindsAfter g bubbleW k t = t
+kindsAfter g (inW w) k t = counted t (reasonFrom g k (w .instruction))
+
+unfoldable pub keptAfter : StageW → Kept → Kept
+keptAfter bubbleW k = k
+keptAfter (inW w) k = lastKept (retiredOf w)
+
+-- what a log takes in this clock: x where an instruction retires
+unfoldable pub logged : StageW → ℕ → List ℕ
+logged bubbleW x = []
+logged (inW w) x = x ∷ []
+
+-- A CLOCK in which no bad status stands in W
+unfoldable pub advanced : Settings → Piped → Piped
+advanced g p =
+    let k = p .pipeline in
+    record {
+      pipeline =
+          record {
+            predicted = nextF g p;
+            d = nextD g p;
+            e = nextE g p;
+            m = nextM p;
+            w = afterM (k .m) (p .memory);
+            registers = registersAfter (k .w) (k .registers);
+            codes = nextCodes p;
+            status = aok;
+            last = lastAfter (k .w) (k .last);
+            retired = retiredAfter (k .w) (k .retired);
+            cycles = k .cycles + 1;
+            kinds = kindsAfter g (k .w) (k .kept) (k .kinds);
+            kept = keptAfter (k .w) (k .kept);
+          };
+      memory = memoryAfter (k .m) (p .memory);
+      addresses = p .addresses ++ logged (k .w) (lastAfter (k .w) (k .last));
+      cycles = p .cycles ++ logged (k .w) (k .cycles + 1);
+    }
+
+-- "When its status is bad, that clock changes only the counts, logs, status and last address: everything else stays as it stood."
+unfoldable pub stoppedIn : Settings → Piped → Accessed → Piped
+stoppedIn g p w =
+    let k = p .pipeline in
+    record {
+      pipeline =
+          record {
+            predicted = k .predicted;
+            d = k .d;
+            e = k .e;
+            m = k .m;
+            w = k .w;
+            registers = k .registers;
+            codes = k .codes;
+            status = w .status;
+            last = w .instruction .address;
+            retired = k .retired + 1;
+            cycles = k .cycles + 1;
+            kinds = counted (k .kinds) (reasonFrom g (k .kept) (w .instruction));
+            kept = k .kept;
+          };
+      memory = p .memory;
+      addresses = p .addresses ++ w .instruction .address ∷ [];
+      cycles = p .cycles ++ (k .cycles + 1) ∷ [];
+    }
+
+unfoldable pub clockBy : Settings → Piped → StageW → Piped
+clockBy g p bubbleW = advanced g p
+clockBy g p (inW w) = cond (isBad (w .status)) (stoppedIn g p w) (advanced g p)
+
+-- "A step or clock on a stopped machine changes nothing, counts nothing and logs nothing."
+unfoldable pub clock : Settings → Piped → Piped
+clock g p = cond (isBad (p .pipeline .status)) p (clockBy g p (p .pipeline .w))
+
+-- the state after n clocks: "A run ends at a stop or a spent budget", since from a stop on a clock changes nothing
+unfoldable pub clocks : Settings → Piped → ℕ → Piped
+clocks g p zero = p
+clocks g p (suc n) = clock g (clocks g p n)

@@ -1,0 +1,82 @@
+-- "Lengths are kept as one table of sixteen rows": a row has document 01's columns, and then document 003's stage table for that code.
+use Prim.Native.Nat.{ℕ}
+use mathlib.Core.Bool.{Bool}
+use mathlib.Core.List.{List, [], _∷_}
+use lib.Dec.{eqb}
+use lib.ListN.{getD}
+use Rattle.machine.specs.Types.{Instruction}
+
+-- what the register byte is: there is none; rA rB; F rB; rA F
+pub data RegisterByte : Type 0 where
+  noByte bothNamed onlyB onlyA : RegisterByte
+
+-- which register a source or a target is
+pub data Which : Type 0 where
+  none rA rB rsp : Which
+
+-- what execute computes: nothing, valB OP valA, valA, C, valB + C, valB - 8, valB + 8
+pub data Computes : Type 0 where
+  nothing bOpA justA justC bPlusC bLess8 bPlus8 : Computes
+
+-- what the memory stage does: nothing, valM ← [valE], valM ← [valA], [valE] ← valA, [valE] ← valP
+pub data Accesses : Type 0 where
+  noAccess loadsAtE loadsAtA storesA storesNext : Accesses
+
+-- the length, how many functions there are from 0 on, and the register byte; then where valA and valB come from (decode), what valE is
+-- (execute), the access (memory), and where valE and valM go (write back)
+pub record Row : Type 0 where
+  pub size : ℕ
+  pub functions : ℕ
+  pub byte : RegisterByte
+  pub a : Which
+  pub b : Which
+  pub computes : Computes
+  pub accesses : Accesses
+  pub target : Which
+  pub loaded : Which
+
+abbrev row : ℕ → ℕ → RegisterByte → Which → Which → Computes → Accesses → Which → Which → Row
+row l f y a b e m t u = record { size = l; functions = f; byte = y; a = a; b = b; computes = e; accesses = m; target = t; loaded = u }
+
+-- codes C to F, which have no functions
+abbrev pub noRow : Row
+noRow = row 1 0 noByte none none nothing noAccess none none
+
+-- 0 halt, 1 nop, 2 cmovXX, 3 irmovq, 4 rmmovq, 5 mrmovq, 6 OPq, 7 jXX, 8 call, 9 ret, A pushq, B popq, C to F
+unfoldable pub table : List Row
+table =
+    row 1 1 noByte none none nothing noAccess none none
+    ∷ row 1 1 noByte none none nothing noAccess none none
+    ∷ row 2 7 bothNamed rA none justA noAccess rB none
+    ∷ row 10 1 onlyB none none justC noAccess rB none
+    ∷ row 10 1 bothNamed rA rB bPlusC storesA none none
+    ∷ row 10 1 bothNamed none rB bPlusC loadsAtE none rA
+    ∷ row 2 4 bothNamed rA rB bOpA noAccess rB none
+    ∷ row 9 7 noByte none none nothing noAccess none none
+    ∷ row 9 1 noByte none rsp bLess8 storesNext rsp none
+    ∷ row 1 1 noByte rsp rsp bPlus8 loadsAtA rsp none
+    ∷ row 2 1 onlyA rA rsp bLess8 storesA rsp none
+    ∷ row 2 1 onlyA rsp rsp bPlus8 loadsAtA rsp rA
+    ∷ noRow ∷ noRow ∷ noRow ∷ noRow ∷ []
+
+unfoldable pub rowOf : ℕ → Row
+rowOf code = getD table code noRow
+
+-- the codes that a rule names by themselves
+abbrev pub cmov : ℕ
+cmov = 2
+
+abbrev pub operation : ℕ
+operation = 6
+
+abbrev pub jump : ℕ
+jump = 7
+
+abbrev pub call : ℕ
+call = 8
+
+abbrev pub ret : ℕ
+ret = 9
+
+unfoldable pub is : ℕ → Instruction → Bool
+is code i = eqb (i .code) code

@@ -1,0 +1,42 @@
+-- The declared types of src/lib.rt under one roof, and document 01's numbers for their cases.
+use Prim.Native.Nat.{ℕ, _+_, _*_}
+use mathlib.Core.Bool.{Bool, true, false, cond}
+pub use Rattle.machine.specs.declared.Status.{Status}
+pub use Rattle.machine.specs.declared.Status.the-variants.{Aok as aok, Hlt as hlt, Adr as adr, Ins as ins}
+pub use Rattle.machine.specs.declared.Codes.{Codes}
+pub use Rattle.machine.specs.declared.Machine.{Machine}
+pub use Rattle.machine.specs.declared.Instruction.{Instruction}
+pub use Rattle.machine.specs.declared.Decoded.{Decoded}
+pub use Rattle.machine.specs.declared.Executed.{Executed}
+pub use Rattle.machine.specs.declared.Accessed.{Accessed}
+pub use Rattle.machine.specs.declared.Retired.{Retired}
+pub use Rattle.machine.specs.declared.StageD.{StageD}
+pub use Rattle.machine.specs.declared.StageD.the-variants.{BubbleD as bubbleD, InD as inD}
+pub use Rattle.machine.specs.declared.StageE.{StageE}
+pub use Rattle.machine.specs.declared.StageE.the-variants.{BubbleE as bubbleE, InE as inE}
+pub use Rattle.machine.specs.declared.StageM.{StageM}
+pub use Rattle.machine.specs.declared.StageM.the-variants.{BubbleM as bubbleM, InM as inM}
+pub use Rattle.machine.specs.declared.StageW.{StageW}
+pub use Rattle.machine.specs.declared.StageW.the-variants.{BubbleW as bubbleW, InW as inW}
+pub use Rattle.machine.specs.declared.Kept.{Kept}
+pub use Rattle.machine.specs.declared.Kept.the-variants.{NoneKept as noneKept, LastKept as lastKept}
+pub use Rattle.machine.specs.declared.Kinds.{Kinds}
+pub use Rattle.machine.specs.declared.Pipeline.{Pipeline}
+
+-- "Status: AOK 1, HLT 2, ADR 3, INS 4."
+unfoldable pub statusNumber : Status → ℕ
+statusNumber aok = 1
+statusNumber hlt = 2
+statusNumber adr = 3
+statusNumber ins = 4
+
+-- a status that "isn't AOK", which document 01 also calls bad
+unfoldable pub isBad : Status → Bool
+isBad aok = false
+isBad hlt = true
+isBad adr = true
+isBad ins = true
+
+-- "codes as 4ZF + 2SF + OF"
+unfoldable pub codesNumber : Codes → ℕ
+codesNumber c = 4 * cond (c .zf) 1 0 + 2 * cond (c .sf) 1 0 + cond (c .of) 1 0

@@ -1,0 +1,118 @@
+// The types of both engines. What they mean, document 01's rules, is in specs/.
+
+// AOK, or why a machine stopped.
+pub enum Status {
+    Aok,
+    Hlt,
+    Adr,
+    Ins,
+}
+
+// The condition codes ZF, SF and OF.
+pub struct Codes {
+    pub zf: bool,
+    pub sf: bool,
+    pub of: bool,
+}
+
+// The plain engine's machine record.
+pub struct Machine {
+    pub registers: [u64; 15],
+    pub codes: Codes,
+    pub address: u64,
+    pub status: Status,
+    pub last: u64,
+    pub count: u64,
+}
+
+// An instruction as it was fetched: where it stands, its status at fetch, its fields, and the address that follows it.
+pub struct Instruction {
+    pub address: u64,
+    pub status: Status,
+    pub code: u8,
+    pub function: u8,
+    pub ra: u8,
+    pub rb: u8,
+    pub constant: u64,
+    pub next: u64,
+}
+
+// What stands in E: an instruction with the values of its two sources.
+pub struct Decoded {
+    pub instruction: Instruction,
+    pub a: u64,
+    pub b: u64,
+}
+
+// What stands in M: the first source's value is kept, for it may be the word to store or the address to load from.
+pub struct Executed {
+    pub instruction: Instruction,
+    pub a: u64,
+    pub result: u64,
+    pub holds: bool,
+}
+
+// What stands in W: the word loaded, and the status after the access.
+pub struct Accessed {
+    pub instruction: Instruction,
+    pub result: u64,
+    pub holds: bool,
+    pub word: u64,
+    pub status: Status,
+}
+
+// What is kept of the last instruction retired with AOK, for its follower's charge.
+pub struct Retired {
+    pub instruction: Instruction,
+    pub holds: bool,
+}
+
+// Each stage holds an instruction, or a bubble.
+pub enum StageD {
+    BubbleD,
+    InD(Instruction),
+}
+
+pub enum StageE {
+    BubbleE,
+    InE(Decoded),
+}
+
+pub enum StageM {
+    BubbleM,
+    InM(Executed),
+}
+
+pub enum StageW {
+    BubbleW,
+    InW(Accessed),
+}
+
+pub enum Kept {
+    NoneKept,
+    LastKept(Retired),
+}
+
+// The cycles charged so far, by kind.
+pub struct Kinds {
+    pub loaduse: u64,
+    pub mispredict: u64,
+    pub returned: u64,
+}
+
+// The pipelined engine's record: F is the predicted address alone.
+pub struct Pipeline {
+    pub predicted: u64,
+    pub d: StageD,
+    pub e: StageE,
+    pub m: StageM,
+    pub w: StageW,
+    pub registers: [u64; 15],
+    pub codes: Codes,
+    pub status: Status,
+    pub last: u64,
+    pub retired: u64,
+    pub cycles: u64,
+    pub kinds: Kinds,
+    pub kept: Kept,
+}
