@@ -1,0 +1,82 @@
+-- What the numbers of the constant tables decide is what the rows say. Assumes nothing.
+use mathlib.Core.Path.{_≡_, refl, _∙_}
+use mathlib.Core.Bool.{_||_, cond}
+use mathlib.Core.List.{map}
+use Prim.Native.Nat.{ℕ}
+use lib.Dec.{eqb}
+use lib.ListN.{getD, List·getD-map}
+use Rattle.machine.specs.declared.Instruction.{Instruction}
+use Rattle.machine.specs.declared.Decoded.{Decoded}
+use Rattle.machine.specs.declared.Executed.{Executed}
+use Rattle.machine.specs.Table.{Row, noRow, table, rowOf, RegisterByte, noByte, bothNamed, onlyB, onlyA, Which, none, rA, rB, rsp, Computes, nothing, bOpA, justA, justC, bPlusC, bLess8, bPlus8, Accesses, noAccess, loadsAtE, loadsAtA, storesA, storesNext}
+use Rattle.machine.specs.Fetch.{halvesFit, half}
+use Rattle.machine.specs.Stages.{register, computed, loading, storing, addressed, stored}
+use Rattle.isa.specs.Numbers.{byteNumber, whichNumber, computesNumber, accessesNumber, halvesFitBy, registerBy, computedBy}
+
+-- a column of the table, read at any code
+pub column : (f : Row → ℕ) (code : ℕ) (r : ℕ) → r ≡ getD (map f table) code (f noRow) → r ≡ f (rowOf code)
+unfolding rowOf
+column f code r e = e ∙ List·getD-map f table code noRow
+
+pub fits-by : (y : RegisterByte) (a b : ℕ) → halvesFitBy (byteNumber y) a b ≡ halvesFit y a b
+unfolding halvesFitBy byteNumber halvesFit
+fits-by noByte a b = refl
+fits-by bothNamed a b = refl
+fits-by onlyB a b = refl
+fits-by onlyA a b = refl
+
+pub half-by : (y : RegisterByte) (x : ℕ) → cond (eqb (byteNumber y) 0) 15 x ≡ half y x
+unfolding byteNumber half
+half-by noByte x = refl
+half-by bothNamed x = refl
+half-by onlyB x = refl
+half-by onlyA x = refl
+
+pub register-by : (w : Which) (i : Instruction) → registerBy (whichNumber w) i ≡ register w i
+unfolding registerBy whichNumber register
+register-by none i = refl
+register-by rA i = refl
+register-by rB i = refl
+register-by rsp i = refl
+
+pub computed-by : (k : Computes) (x : Decoded) → computedBy (computesNumber k) x ≡ computed k x
+unfolding computedBy computesNumber computed
+computed-by nothing x = refl
+computed-by bOpA x = refl
+computed-by justA x = refl
+computed-by justC x = refl
+computed-by bPlusC x = refl
+computed-by bLess8 x = refl
+computed-by bPlus8 x = refl
+
+pub loads-by : (k : Accesses) → (eqb (accessesNumber k) 1 || eqb (accessesNumber k) 2) ≡ loading k
+unfolding accessesNumber loading
+loads-by noAccess = refl
+loads-by loadsAtE = refl
+loads-by loadsAtA = refl
+loads-by storesA = refl
+loads-by storesNext = refl
+
+pub stores-by : (k : Accesses) → (eqb (accessesNumber k) 3 || eqb (accessesNumber k) 4) ≡ storing k
+unfolding accessesNumber storing
+stores-by noAccess = refl
+stores-by loadsAtE = refl
+stores-by loadsAtA = refl
+stores-by storesA = refl
+stores-by storesNext = refl
+
+pub addressed-by : (k : Accesses) (x : Executed) → cond (eqb (accessesNumber k) 2) (x .a) (x .result) ≡ addressed k x
+unfolding accessesNumber addressed
+addressed-by noAccess x = refl
+addressed-by loadsAtE x = refl
+addressed-by loadsAtA x = refl
+addressed-by storesA x = refl
+addressed-by storesNext x = refl
+
+pub stored-by : (k : Accesses) (x : Executed) → cond (eqb (accessesNumber k) 4) (x .instruction .next) (x .a) ≡ stored k x
+unfolding accessesNumber stored
+stored-by noAccess x = refl
+stored-by loadsAtE x = refl
+stored-by loadsAtA x = refl
+stored-by storesA x = refl
+stored-by storesNext x = refl

@@ -1,0 +1,194 @@
+-- One law for each way out of a function, over variables for what its callees gave. Assumes nothing.
+use mathlib.Core.Path.{_≡_, refl, sym}
+use mathlib.Core.Bool.{Bool, true, false, cond, not, _&&_, _||_, Bool·beq}
+use mathlib.Core.List.{List, [], _∷_}
+use Prim.Native.Nat.{ℕ, zero, suc, _≤_, _<_}
+use native.Mathlib.Omega.{arith}
+use lib.Bits.{bitAnd, bitXor}
+use lib.Dec.{eqb}
+use lib.ListN.{getD, length, List·getD-eq-default}
+use lib.IntN.{pos, _+ℤ_, _-ℤ_}
+use mir.Syntax.{w64}
+use lib.Signed.{ltZ}
+use borrow.Author.Tests.{eq-eqb, ne-eqb}
+use Rattle.machine.specs.declared.Status.{Status}
+use Rattle.machine.specs.declared.Status.the-variants.{Adr as adr}
+use Rattle.machine.specs.declared.Codes.{Codes}
+use Rattle.machine.specs.declared.Instruction.{Instruction}
+use Rattle.machine.specs.declared.Decoded.{Decoded}
+use Rattle.machine.specs.declared.Executed.{Executed}
+use Rattle.machine.specs.declared.Accessed.{Accessed}
+use Rattle.machine.specs.Types.{isBad}
+use Rattle.machine.specs.Words.{sum, difference, signed, outside}
+use Rattle.machine.specs.Memory.{Memory, Registers, inside, load, store, written}
+use Rattle.machine.specs.Table.{rowOf, is}
+use Rattle.machine.specs.Stages.{sourceA, sourceB, resultTarget, loadedTarget, newRegisters, operated, overflows, operatedCodes, newCodes, condition, result, outcome, execute, loads, stores, accessAddress, storedWord, accessStatus, access, newMemory, turned, straight, nextAddress}
+use Rattle.isa.specs.Numbers.{whichNumber, computesNumber, accessesNumber, registerBy, computedBy}
+use Rattle.isa.proofs.Entries.{register-by, computed-by, loads-by, stores-by, addressed-by, stored-by}
+
+-- an entry that is there does not depend on the default
+pub there : (l : List ℕ) (k d d′ : ℕ) → k < length l → getD l k d ≡ getD l k d′
+there [] k d d′ h = absurd (omega arith)
+there (x ∷ l) zero d d′ h = refl
+there (x ∷ l) (suc k) d d′ h = there l k d d′ (omega arith)
+
+pub missing : {A : Type 0} (l : List A) (k : ℕ) (d : A) → length l ≤ k → d ≡ getD l k d
+missing l k d h = sym (List·getD-eq-default l d h)
+
+-- DECODE
+pub a-bad : (i : Instruction) (b : Bool) → b ≡ isBad (i .status) → b ≡ true → 15 ≡ sourceA i
+unfolding sourceA
+a-bad i b e h = cc
+
+pub a-good : (i : Instruction) (b : Bool) (k r : ℕ) → b ≡ isBad (i .status) → b ≡ false → k ≡ whichNumber (rowOf (i .code) .a) → r ≡ registerBy k i → r ≡ sourceA i
+unfolding sourceA
+a-good i b k r e h q p = cc (register-by (rowOf (i .code) .a) i)
+
+pub b-bad : (i : Instruction) (b : Bool) → b ≡ isBad (i .status) → b ≡ true → 15 ≡ sourceB i
+unfolding sourceB
+b-bad i b e h = cc
+
+pub b-good : (i : Instruction) (b : Bool) (k r : ℕ) → b ≡ isBad (i .status) → b ≡ false → k ≡ whichNumber (rowOf (i .code) .b) → r ≡ registerBy k i → r ≡ sourceB i
+unfolding sourceB
+b-good i b k r e h q p = cc (register-by (rowOf (i .code) .b) i)
+
+pub lost : (i : Instruction) (h : Bool) → eqb (i .code) 2 && not h ≡ true → 15 ≡ resultTarget i h
+unfolding resultTarget is
+lost i h t = cc
+
+pub targeted : (i : Instruction) (h : Bool) (k r : ℕ) → eqb (i .code) 2 && not h ≡ false → k ≡ whichNumber (rowOf (i .code) .target) → r ≡ registerBy k i → r ≡ resultTarget i h
+unfolding resultTarget is
+targeted i h k r t q p = cc (register-by (rowOf (i .code) .target) i)
+
+pub into : (i : Instruction) (k r : ℕ) → k ≡ whichNumber (rowOf (i .code) .loaded) → r ≡ registerBy k i → r ≡ loadedTarget i
+unfolding loadedTarget
+into i k r q p = cc (register-by (rowOf (i .code) .loaded) i)
+
+pub wrote : (w : Accessed) (r r₁ r₂ : Registers) (t u : ℕ) → t ≡ resultTarget (w .instruction) (w .holds) → r₁ ≡ written r t (w .result)
+    → u ≡ loadedTarget (w .instruction) → r₂ ≡ written r₁ u (w .word) → r₂ ≡ newRegisters w r
+unfolding newRegisters
+wrote w r r₁ r₂ t u e p f q = cc
+
+-- EXECUTE
+-- a function number past the last of its list
+pub no-operation : (f a b : ℕ) → 4 ≤ f → 0 ≡ operated f a b
+unfolding operated
+no-operation f a b h = missing (sum b a ∷ difference b a ∷ bitAnd b a ∷ bitXor b a ∷ []) f 0 h
+
+pub no-overflow : (f a b : ℕ) → 2 ≤ f → false ≡ overflows f a b
+unfolding overflows
+no-overflow f a b h = missing (outside w64 (signed b +ℤ signed a) ∷ outside w64 (signed b -ℤ signed a) ∷ []) f false h
+
+pub past-six : (f : ℕ) → (f ≡ 0 → ⊥) → (f ≡ 1 → ⊥) → (f ≡ 2 → ⊥) → (f ≡ 3 → ⊥) → (f ≡ 4 → ⊥) → (f ≡ 5 → ⊥) → (f ≡ 6 → ⊥) → 7 ≤ f
+past-six zero h0 h1 h2 h3 h4 h5 h6 = absurd (h0 refl)
+past-six (suc zero) h0 h1 h2 h3 h4 h5 h6 = absurd (h1 refl)
+past-six (suc (suc zero)) h0 h1 h2 h3 h4 h5 h6 = absurd (h2 refl)
+past-six (suc (suc (suc zero))) h0 h1 h2 h3 h4 h5 h6 = absurd (h3 refl)
+past-six (suc (suc (suc (suc zero)))) h0 h1 h2 h3 h4 h5 h6 = absurd (h4 refl)
+past-six (suc (suc (suc (suc (suc zero))))) h0 h1 h2 h3 h4 h5 h6 = absurd (h5 refl)
+past-six (suc (suc (suc (suc (suc (suc zero)))))) h0 h1 h2 h3 h4 h5 h6 = absurd (h6 refl)
+past-six (suc (suc (suc (suc (suc (suc (suc f))))))) h0 h1 h2 h3 h4 h5 h6 = omega arith
+
+pub no-condition : (f : ℕ) (c : Codes) → 7 ≤ f → false ≡ condition f c
+unfolding condition
+no-condition f c h =
+    let ge = Bool·beq (c .sf) (c .of) in
+    let e = c .zf in
+    missing (true ∷ (not ge || e) ∷ not ge ∷ e ∷ not e ∷ ge ∷ (ge && not e) ∷ []) f false h
+
+pub set-codes : (f a b v : ℕ) (n o : Bool) → v ≡ operated f a b → n ≡ ltZ (signed v) (pos 0) → o ≡ overflows f a b
+    → record { zf = eqb v 0; sf = n; of = o } ≡ operatedCodes f a b
+unfolding operatedCodes
+set-codes f a b v n o e p q = cc
+
+pub codes-set : (x : Decoded) (c k : Codes) → x .instruction .code ≡ 6 → k ≡ operatedCodes (x .instruction .function) (x .a) (x .b) → k ≡ newCodes x c
+unfolding newCodes is
+codes-set x c k h e = cc (eq-eqb (x .instruction .code) 6 h)
+
+pub codes-kept : (x : Decoded) (c : Codes) → (x .instruction .code ≡ 6 → ⊥) → c ≡ newCodes x c
+unfolding newCodes is
+codes-kept x c h = cc (ne-eqb (x .instruction .code) 6 h)
+
+pub result-is : (x : Decoded) (k v : ℕ) → k ≡ computesNumber (rowOf (x .instruction .code) .computes) → v ≡ computedBy k x → v ≡ result x
+unfolding result
+result-is x k v q p = cc (computed-by (rowOf (x .instruction .code) .computes) x)
+
+pub tested : (i : Instruction) (c : Codes) (b : Bool) → (eqb (i .code) 2 || eqb (i .code) 7) ≡ true → b ≡ condition (i .function) c → b ≡ outcome i c
+unfolding outcome is
+tested i c b t e = cc
+
+pub untested : (i : Instruction) (c : Codes) → (eqb (i .code) 2 || eqb (i .code) 7) ≡ false → true ≡ outcome i c
+unfolding outcome is
+untested i c t = cc
+
+pub executed-is : (x : Decoded) (c : Codes) (v : ℕ) (h : Bool) → v ≡ result x → h ≡ outcome (x .instruction) c
+    → record { instruction = x .instruction; a = x .a; result = v; holds = h } ≡ execute x c
+unfolding execute
+executed-is x c v h e p = cc
+
+pub back-to : (w : Accessed) → w .instruction .code ≡ 9 → w .word ≡ nextAddress w
+unfolding nextAddress is
+back-to w h = cc (eq-eqb (w .instruction .code) 9 h)
+
+pub jumps-to : (w : Accessed) (v : ℕ) → (w .instruction .code ≡ 9 → ⊥) → w .instruction .code ≡ 7 → v ≡ turned (w .instruction) (w .holds) → v ≡ nextAddress w
+unfolding nextAddress is
+jumps-to w v h k e = cc (ne-eqb (w .instruction .code) 9 h, eq-eqb (w .instruction .code) 7 k)
+
+pub goes-on : (w : Accessed) (v : ℕ) → (w .instruction .code ≡ 9 → ⊥) → (w .instruction .code ≡ 7 → ⊥) → v ≡ straight (w .instruction) → v ≡ nextAddress w
+unfolding nextAddress is
+goes-on w v h k e = cc (ne-eqb (w .instruction .code) 9 h, ne-eqb (w .instruction .code) 7 k)
+
+-- ACCESS
+pub loads-is : (i : Instruction) (k : ℕ) → k ≡ accessesNumber (rowOf (i .code) .accesses) → (eqb k 1 || eqb k 2) ≡ loads i
+unfolding loads
+loads-is i k q = cc (loads-by (rowOf (i .code) .accesses))
+
+pub stores-is : (i : Instruction) (k : ℕ) → k ≡ accessesNumber (rowOf (i .code) .accesses) → (eqb k 3 || eqb k 4) ≡ stores i
+unfolding stores
+stores-is i k q = cc (stores-by (rowOf (i .code) .accesses))
+
+pub at-a : (x : Executed) (k : ℕ) → k ≡ accessesNumber (rowOf (x .instruction .code) .accesses) → k ≡ 2 → x .a ≡ accessAddress x
+unfolding accessAddress
+at-a x k q h = cc (addressed-by (rowOf (x .instruction .code) .accesses) x, eq-eqb k 2 h)
+
+pub at-e : (x : Executed) (k : ℕ) → k ≡ accessesNumber (rowOf (x .instruction .code) .accesses) → (k ≡ 2 → ⊥) → x .result ≡ accessAddress x
+unfolding accessAddress
+at-e x k q h = cc (addressed-by (rowOf (x .instruction .code) .accesses) x, ne-eqb k 2 h)
+
+pub next-stored : (x : Executed) (k : ℕ) → k ≡ accessesNumber (rowOf (x .instruction .code) .accesses) → k ≡ 4 → x .instruction .next ≡ storedWord x
+unfolding storedWord
+next-stored x k q h = cc (stored-by (rowOf (x .instruction .code) .accesses) x, eq-eqb k 4 h)
+
+pub a-stored : (x : Executed) (k : ℕ) → k ≡ accessesNumber (rowOf (x .instruction .code) .accesses) → (k ≡ 4 → ⊥) → x .a ≡ storedWord x
+unfolding storedWord
+a-stored x k q h = cc (stored-by (rowOf (x .instruction .code) .accesses) x, ne-eqb k 4 h)
+
+pub failed : (x : Executed) (m : Memory) (l s n : Bool) (a : ℕ) → l ≡ loads (x .instruction) → s ≡ stores (x .instruction) → a ≡ accessAddress x → n ≡ inside m a
+    → (l || s) && not n ≡ true → adr ≡ accessStatus x m
+unfolding accessStatus
+failed x m l s n a e f g h t = cc
+
+pub sound : (x : Executed) (m : Memory) (l s n : Bool) (a : ℕ) → l ≡ loads (x .instruction) → s ≡ stores (x .instruction) → a ≡ accessAddress x → n ≡ inside m a
+    → (l || s) && not n ≡ false → x .instruction .status ≡ accessStatus x m
+unfolding accessStatus
+sound x m l s n a e f g h t = cc
+
+pub word-read : (x : Executed) (m : Memory) (b : Bool) (a v : ℕ) → b ≡ loads (x .instruction) → b ≡ true → a ≡ accessAddress x → v ≡ load m a → v ≡ cond (loads (x .instruction)) (load m (accessAddress x)) 0
+word-read x m b a v e h p q = cc
+
+pub no-word : (x : Executed) (m : Memory) (b : Bool) → b ≡ loads (x .instruction) → b ≡ false → 0 ≡ cond (loads (x .instruction)) (load m (accessAddress x)) 0
+no-word x m b e h = cc
+
+pub accessed-is : (x : Executed) (m : Memory) (v : ℕ) (s : Status) → v ≡ cond (loads (x .instruction)) (load m (accessAddress x)) 0 → s ≡ accessStatus x m
+    → record { instruction = x .instruction; result = x .result; holds = x .holds; word = v; status = s } ≡ access x m
+unfolding access
+accessed-is x m v s e f = cc
+
+pub updated : (x : Executed) (m m′ : Memory) (b : Bool) (a v : ℕ) → b ≡ stores (x .instruction) → b ≡ true → a ≡ accessAddress x → v ≡ storedWord x
+    → m′ ≡ store m a v → m′ ≡ newMemory x m
+unfolding newMemory
+updated x m m′ b a v e h p q r = cc
+
+pub left-alone : (x : Executed) (m : Memory) (b : Bool) → b ≡ stores (x .instruction) → b ≡ false → m ≡ newMemory x m
+unfolding newMemory
+left-alone x m b e h = cc

@@ -1,0 +1,16 @@
+use Rattle.isa.proofs.Entries.{column}
+use Rattle.machine.specs.Table.{Row, table}
+use Rattle.isa.specs.Numbers.{computesNumber}
+use borrow.Author.Needs.{needs}
+use Rattle.isa.proofs.rows.computes_of.Statement.{statement}
+use Rattle.isa.proofs.rows.computes_of.Tie as tie
+
+entry-requires : tie.Need-entry-requires
+entry-requires c κs = search needs
+
+returns : tie.Need-returns
+unfolding table computesNumber
+returns c = column (λ (r : Row). computesNumber (r .computes)) _ _ (c .entry .ensures)
+
+pub computes-of-spec : {M : Type 1} → statement M
+computes-of-spec = tie.close (tie.spec entry-requires returns)

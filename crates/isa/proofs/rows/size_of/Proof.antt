@@ -1,0 +1,15 @@
+use Rattle.isa.proofs.Entries.{column}
+use Rattle.machine.specs.Table.{Row, table}
+use borrow.Author.Needs.{needs}
+use Rattle.isa.proofs.rows.size_of.Statement.{statement}
+use Rattle.isa.proofs.rows.size_of.Tie as tie
+
+entry-requires : tie.Need-entry-requires
+entry-requires c κs = search needs
+
+returns : tie.Need-returns
+unfolding table
+returns c = column (λ (r : Row). r .size) _ _ (c .entry .ensures)
+
+pub size-of-spec : {M : Type 1} → statement M
+size-of-spec = tie.close (tie.spec entry-requires returns)

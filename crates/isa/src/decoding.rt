@@ -1,0 +1,109 @@
+// Sources, targets, and the register file.
+use crate::rows::a_from;
+use crate::rows::b_from;
+use crate::rows::loaded_of;
+use crate::rows::target_of;
+use machine::Accessed;
+use machine::Instruction;
+use machine::Status;
+ghost use mathlib.Core.Path.{_≡_};
+ghost use Rattle.machine.specs.Types.{isBad};
+ghost use Rattle.machine.specs.Memory.{value as valueOf, written as writtenOf};
+ghost use Rattle.machine.specs.Stages.{sourceA, sourceB, resultTarget, loadedTarget, newRegisters};
+ghost use Rattle.isa.specs.Numbers.{registerBy};
+
+pub fn is_bad(status: Status) -> bool
+    ensures { λ r. ⌜ r ≡ isBad status ⌝ }
+{
+    match status {
+        Status::Aok => false,
+        Status::Hlt => true,
+        Status::Adr => true,
+        Status::Ins => true,
+    }
+}
+
+// The register that a table's entry names.
+fn register(which: u8, i: Instruction) -> u8
+    ensures { λ r. ⌜ r ≡ registerBy which i ⌝ }
+{
+    match which {
+        1 => i.ra,
+        2 => i.rb,
+        3 => 4,
+        _ => 15,
+    }
+}
+
+// The register that valA comes from, 15 for none.
+pub fn source_a(i: Instruction) -> u8
+    ensures { λ r. ⌜ r ≡ sourceA i ⌝ }
+{
+    let status = i.status;
+    if is_bad(status) {
+        15
+    } else {
+        register(a_from(i.code), i)
+    }
+}
+
+// The register that valB comes from, 15 for none.
+pub fn source_b(i: Instruction) -> u8
+    ensures { λ r. ⌜ r ≡ sourceB i ⌝ }
+{
+    let status = i.status;
+    if is_bad(status) {
+        15
+    } else {
+        register(b_from(i.code), i)
+    }
+}
+
+// Where valE goes: a false cmov has no target.
+pub fn result_target(i: Instruction, holds: bool) -> u8
+    ensures { λ r. ⌜ r ≡ resultTarget i holds ⌝ }
+{
+    if (i.code == 2) & !holds {
+        15
+    } else {
+        register(target_of(i.code), i)
+    }
+}
+
+// Where valM goes.
+pub fn loaded_target(i: Instruction) -> u8
+    ensures { λ r. ⌜ r ≡ loadedTarget i ⌝ }
+{
+    register(loaded_of(i.code), i)
+}
+
+// A register's value: 15 reads 0.
+pub fn value(registers: &[u64; 15], q: u8) -> u64
+    ensures { λ r. ⌜ r ≡ valueOf (now (registers .entry)) q ⌝ }
+{
+    if q < 15 {
+        let k = q as usize;
+        registers[k]
+    } else {
+        0
+    }
+}
+
+// One register changed: 15 writes nothing.
+pub fn write(registers: &mut [u64; 15], q: u8, v: u64)
+    ensures { λ _. ⌜ now (registers .exit) ≡ writtenOf (now (registers .entry)) q v ⌝ }
+{
+    if q < 15 {
+        let k = q as usize;
+        registers[k] = v;
+    }
+}
+
+// Write back: the result, and then the loaded word.
+pub fn write_back(w: Accessed, registers: &mut [u64; 15])
+    ensures { λ _. ⌜ now (registers .exit) ≡ newRegisters w (now (registers .entry)) ⌝ }
+{
+    let i = w.instruction;
+    write(registers, result_target(i, w.holds), w.result);
+    write(registers, loaded_target(i), w.word);
+}
