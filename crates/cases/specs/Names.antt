@@ -1,0 +1,5 @@
+-- The declared types under one roof.
+pub use Rattle.machine.specs.declared.Status.{Status}
+pub use Rattle.machine.specs.declared.Status.the-variants.{Aok as aok, Hlt as hlt, Adr as adr, Ins as ins}
+pub use Rattle.machine.specs.declared.Codes.{Codes}
+pub use Rattle.machine.specs.declared.Executed.{Executed}

@@ -1,0 +1,51 @@
+-- "Cases (P: proved, in one table)": a line each, and the listings of 001 and 004.
+use Prim.Native.Nat.{ℕ, _-_, _^_}
+use mathlib.Core.Path.{_≡_, refl}
+use mathlib.Core.Bool.{true}
+use mathlib.Core.List.{List, [], _∷_}
+use Rattle.cases.specs.Names.{Status, hlt, adr, ins}
+use Rattle.cases.specs.Asked.{Case, Look, register, word, charged, allHold}
+
+-- N, how many bytes are given, the bytes as they are written, the registers that are not 0; then
+-- status, last address, codes, retired, cycles, the kinds load-use, mispredict, return, and what else is looked at
+abbrev case : (size bytes image : ℕ) → List (ℕ × ℕ) → Status → (last codes retired cycles loaduse mispredict returned : ℕ) → List Look → Case
+case n k x r t a c i y l m u s =
+    record { size = n; bytes = k; image = x; registers = r; status = t; last = a; codes = c; retired = i; cycles = y; kinds = l ∷ m ∷ u ∷ []; looks = s }
+
+unfoldable pub cases : List Case
+cases =
+    -- P1 `00`: HLT, 5 cycles
+    case 1 1 0x00 [] hlt 0 4 1 5 0 0 0 []
+    -- P2 `10`: nop, then ADR at 1; 2 retired, 6 cycles
+    ∷ case 1 1 0x10 [] adr 1 4 2 6 0 0 0 []
+    -- P3 `c0` INS
+    ∷ case 1 1 0xc0 [] ins 0 4 1 5 0 0 0 []
+    -- P4 `64` INS, before the missing byte
+    ∷ case 1 1 0x64 [] ins 0 4 1 5 0 0 0 []
+    -- P5 `60` ADR
+    ∷ case 1 1 0x60 [] adr 0 4 1 5 0 0 0 []
+    -- P6 `60f0` INS
+    ∷ case 2 2 0x60f0 [] ins 0 4 1 5 0 0 0 []
+    -- P7 word at N-8 inside, at N-7 and 2^64-1 ADR: popq rax with rsp there
+    ∷ case 8 2 0xb00f ((4, 0) ∷ []) hlt 2 4 2 6 0 0 0 ((register, 0, 0x0fb0) ∷ (register, 4, 8) ∷ [])
+    ∷ case 8 2 0xb00f ((4, 1) ∷ []) adr 0 4 1 5 0 0 0 ((register, 0, 0) ∷ (register, 4, 1) ∷ [])
+    ∷ case 8 2 0xb00f ((4, 2 ^ 64 - 1) ∷ []) adr 0 4 1 5 0 0 0 ((register, 0, 0) ∷ (register, 4, 2 ^ 64 - 1) ∷ [])
+    -- P8 -2^63 minus 1: 2^63-1, OF 1, SF 0, l true: subq rax, rcx, then cmovl rax, rdx
+    ∷ case 5 5 0x6101_2202_00 ((0, 1) ∷ (1, 2 ^ 63) ∷ []) hlt 4 1 3 7 0 0 0 ((register, 1, 2 ^ 63 - 1) ∷ (register, 2, 1) ∷ [])
+    -- P9 0 minus -2^63: OF 1, SF 1, l false
+    ∷ case 5 5 0x6101_2202_00 ((0, 2 ^ 63) ∷ []) hlt 4 3 3 7 0 0 0 ((register, 1, 2 ^ 63) ∷ (register, 2, 0) ∷ [])
+    -- P10 pushq rsp stores the old rsp, popq rsp leaves the word
+    ∷ case 16 3 0xa04f_00 ((4, 16) ∷ []) hlt 2 4 2 6 0 0 0 ((register, 4, 8) ∷ (word, 8, 16) ∷ [])
+    ∷ case 16 9 0xb04f_00_0000000000_05 ((4, 8) ∷ []) hlt 2 4 2 6 0 0 0 ((register, 4, 5) ∷ [])
+    -- P11 popq rsp before ret: ret charged 1, its follower 3
+    ∷ case 24 17 0xb04f_90_00_00000000_1000000000000000_03 ((4, 8) ∷ []) hlt 3 4 3 11 1 0 3 ((register, 4, 24) ∷ (charged, 2, 1) ∷ (charged, 3, 3) ∷ [])
+    -- the listing of 001: 11 retired, 20 cycles, HLT at 0x40, rax 9, rbx 12, rsp 128, word at 120 is 64
+    ∷ case 256 66 0x30f20900000000000000_30f31500000000000000_6123_30f48000000000000000_40436400000000000000_a02f_b00f_734000000000000000_804100000000000000_00_90 [] hlt 0x40 0 11 20 0 2 3 ((register, 0, 9) ∷ (register, 3, 12) ∷ (register, 4, 128) ∷ (word, 120, 64) ∷ [])
+    -- the listing of 004 stops at 0x13 after 33, in 52 cycles
+    ∷ case 256 161 0x30f40001000000000000_804000000000000000_00_00000000_0d000d000d000d00_c000c000c000c000_000b000b000b000b_00a000a000a000a0_0000000000000000_30f71800000000000000_805400000000000000_90_30f80100000000000000_30f90800000000000000_30f00000000000000000_50270000000000000000_6222_73a000000000000000_6080_6097_50270000000000000000_6222_748700000000000000_90 [] hlt 0x13 4 33 52 5 4 6 ((register, 0, 4) ∷ (register, 4, 0x100) ∷ (register, 7, 0x38) ∷ (register, 8, 1) ∷ (register, 9, 8) ∷ (word, 0xf0, 0x53) ∷ (word, 0xf8, 0x13) ∷ [])
+    ∷ []
+
+-- every case holds
+pub cases-hold : allHold cases ≡ true
+unfolding cases allHold
+cases-hold = refl

@@ -1,0 +1,137 @@
+-- The fetch row of the columns: what an instruction that is fetched with AOK is, by the bytes from the program address on.
+use Prim.Native.Nat.{ℕ, zero, suc, min, _+_, _-_, _/_, _%_, _<_, _≤_}
+use mathlib.Core.Path.{_≡_, refl, sym, ap, _∙_}
+use mathlib.Core.Bool.{Bool, true, false, cond, not}
+use mathlib.Core.List.{[], _∷_}
+use native.Mathlib.Nat.{add-zero, add-assoc}
+use native.Mathlib.Omega.{arith}
+use lib.Dec.{T, ltb, leb, eqb, ltb→lt}
+use borrow.Author.Tests.{leb-true, leb-false, ltb-true, ltb-false, lt-ltb, le-ltb, eq-eqb, ne-eqb}
+use lib.ListN.{length, length-take, length-drop, getD, take, drop}
+use lib.Seq.{getD-take, getD-drop, drop-cons}
+use Rattle.machine.specs.Types.{isBad}
+use Rattle.machine.specs.Words.{sum, number}
+use Rattle.machine.specs.Memory.{Memory}
+use Rattle.machine.specs.Table.{rowOf, table, RegisterByte, noByte, bothNamed, onlyB, onlyA}
+use Rattle.machine.specs.Fetch.{sizeAt, ownBytes, stopping, checked, half, constantIn, parsed, fetch, halvesFit}
+use Rattle.columns.specs.Names.{Status, aok, hlt, Instruction}
+use Rattle.columns.specs.Lengths.{length-rule, two, parts, hasByte}
+
+-- M₁[a], a byte, and M₈[a], the eight bytes from a on
+abbrev pub M₁ : Memory → ℕ → ℕ
+M₁ m a = getD m a 0
+
+abbrev pub M₈ : Memory → ℕ → ℕ
+M₈ m a = number 8 m a
+
+-- the constant of an instruction at a that is so long: its last eight bytes
+abbrev constantAt : Memory → ℕ → ℕ → ℕ
+constantAt m a size = cond (ltb 8 size) (M₈ m (a + (size - 8))) 0
+
+-- the instruction at a with this code: icode:ifun ← M₁[PC], rA:rB ← M₁[PC+1], valC ← its last eight bytes, valP ← PC + its length
+unfoldable pub aokAt : Memory → ℕ → ℕ → Instruction
+aokAt m a code =
+    let row = rowOf code in
+    record {
+      address = a;
+      status = aok;
+      code = code;
+      function = M₁ m a % 16;
+      ra = half (row .byte) (M₁ m (a + 1) / 16);
+      rb = half (row .byte) (M₁ m (a + 1) % 16);
+      constant = constantAt m a (row .size);
+      next = sum a (row .size);
+    }
+
+-- the own bytes of an instruction are those of memory
+own : (m : Memory) (a n j : ℕ) → j < n → getD (take n (drop a m)) j 0 ≡ M₁ m (a + j)
+own m a n j h = rw (getD-take, getD-drop)
+
+own-number : (k : ℕ) (m : Memory) (a n j : ℕ) → j + k ≤ n → number k (take n (drop a m)) j ≡ number k m (a + j)
+unfolding number
+own-number zero m a n j h = refl
+own-number (suc k) m a n j h = rw (own m a n j (omega arith), own-number k m a n (j + 1) (omega arith), add-assoc)
+
+half-same : (y : RegisterByte) (x x′ : ℕ) → (T (hasByte y) → x ≡ x′) → half y x ≡ half y x′
+unfolding half hasByte
+half-same noByte x x′ e = refl
+half-same bothNamed x x′ e = e tt
+half-same onlyB x x′ e = e tt
+half-same onlyA x x′ e = e tt
+
+cond-same : (b : Bool) (x x′ y : ℕ) → (T b → x ≡ x′) → cond b x y ≡ cond b x′ y
+cond-same true x x′ y e = e tt
+cond-same false x x′ y e = refl
+
+alike : (b c : Bool) → (b ≡ true → c ≡ true) → (b ≡ false → c ≡ false) → c ≡ b
+alike true c t f = t refl
+alike false c t f = f refl
+
+-- the own bytes are none, or fewer than the length, exactly when memory ends before
+module _ (m : Memory) (a n : ℕ) (some : 0 < n) where
+  none-own : eqb (length (take n (drop a m))) 0 ≡ leb (length m) a
+  none-own =
+      let k = min n (length m - a) in
+      simp (length-take, length-drop)
+      (alike (leb (length m) a) _ (λ e. eq-eqb k 0 (omega (arith, leb-true (length m) a e))) (λ e. ne-eqb k 0 (omega (arith, leb-false (length m) a e))))
+
+  few-own : ltb (length (take n (drop a m))) n ≡ ltb (length m) (a + n)
+  few-own =
+      let k = min n (length m - a) in
+      simp (length-take, length-drop)
+      (alike (ltb (length m) (a + n)) _ (λ e. lt-ltb k n (omega (arith, ltb-true (length m) (a + n) e))) (λ e. le-ltb k n (omega (arith, ltb-false (length m) (a + n) e))))
+
+-- THE FETCH: its checks in order, on memory itself, and the instruction that is then there
+pub fetch-is : (m : Memory) (a : ℕ)
+    → let code = M₁ m a / 16 in
+    let i = aokAt m a code in
+    fetch m a ≡ checked (leb (length m) a) (leb (rowOf code .functions) (i .function)) (ltb (length m) (a + rowOf code .size)) (not (halvesFit (rowOf code .byte) (i .ra) (i .rb))) (eqb code 0) i
+unfolding fetch parsed ownBytes sizeAt aokAt constantIn parts
+fetch-is m a =
+    let row = rowOf (M₁ m a / 16) in
+    let n = row .size in
+    let rule : n ≡ parts row = length-rule (M₁ m a / 16) in
+    let first : getD (take n (drop a m)) 0 0 ≡ M₁ m a = own m a n 0 (omega arith) ∙ ap (M₁ m) (add-zero a) in
+    let second : T (hasByte (row .byte)) → getD (take n (drop a m)) 1 0 ≡ M₁ m (a + 1) = λ t. own m a n 1 (rw rule (two row t)) in
+    rw first
+    (cc (
+      none-own m a n (omega arith),
+      few-own m a n (omega arith),
+      half-same (row .byte) _ _ (λ t. ap (_/ 16) (second t)),
+      half-same (row .byte) _ _ (λ t. ap (_% 16) (second t)),
+      cond-same (ltb 8 n) _ _ 0 (λ t. own-number 8 m a n (n - 8) (omega (arith, ltb→lt 8 n t))),
+    ))
+
+-- an instruction that is checked to AOK is the one given
+checked-aok : (f n l r h : Bool) (i : Instruction) → checked f n l r h i .status ≡ aok → checked f n l r h i ≡ i
+unfolding checked stopping
+checked-aok true n l r h i e = cc
+checked-aok false true l r h i e = cc
+checked-aok false false true r h i e = cc
+checked-aok false false false true h i e = cc
+checked-aok false false false false true i e = cc
+checked-aok false false false false false i e = refl
+
+-- what is fetched with AOK is this
+pub fetch-aok : (m : Memory) (a : ℕ) → fetch m a .status ≡ aok → fetch m a ≡ aokAt m a (M₁ m a / 16)
+fetch-aok m a e = fetch-is m a ∙ checked-aok _ _ _ _ _ _ (ap (λ i. i .status) (sym (fetch-is m a)) ∙ e)
+
+-- a bad status is that of a nop that goes nowhere
+checked-bad : (f n l r h : Bool) (i : Instruction) (bad : Status) → i .status ≡ aok → isBad bad ≡ true → checked f n l r h i .status ≡ bad
+    → checked f n l r h i ≡ stopping (i .address) bad
+unfolding checked stopping isBad
+checked-bad true n l r h i bad a b e = ap (stopping (i .address)) e
+checked-bad false true l r h i bad a b e = ap (stopping (i .address)) e
+checked-bad false false true r h i bad a b e = ap (stopping (i .address)) e
+checked-bad false false false true h i bad a b e = ap (stopping (i .address)) e
+checked-bad false false false false true i bad a b e = ap (stopping (i .address)) e
+checked-bad false false false false false i bad a b e = cc (ap isBad (sym a ∙ e))
+
+pub fetch-bad : (m : Memory) (a : ℕ) (bad : Status) → isBad bad ≡ true → fetch m a .status ≡ bad → fetch m a ≡ stopping a bad
+unfolding fetch parsed
+fetch-bad m a bad b e = checked-bad _ _ _ _ _ _ bad refl b e
+
+-- "Only then is 0x00 HLT."
+pub fetch-halt : (m : Memory) (a : ℕ) → a < length m → M₁ m a ≡ 0 → fetch m a .status ≡ hlt
+unfolding fetch parsed ownBytes sizeAt checked stopping half halvesFit rowOf table
+fetch-halt m a h e = ap (λ b. parsed a b .status) (ap (λ b. take (rowOf (b / 16) .size) (drop a m)) e ∙ ap (take 1) (drop-cons m a 0 h) ∙ ap (_∷ []) e)

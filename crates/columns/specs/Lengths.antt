@@ -1,0 +1,49 @@
+-- The length rule, by one test computed over the sixteen rows.
+use Prim.Native.Nat.{ℕ, zero, suc, _+_, _≤_}
+use mathlib.Core.Path.{_≡_}
+use mathlib.Core.Bool.{Bool, true, false, cond, _&&_}
+use mathlib.Core.List.{List, [], _∷_}
+use native.Mathlib.Omega.{arith}
+use lib.Dec.{T, ltb, eqb, eqb→eq}
+use lib.ListN.{getD}
+use Rattle.machine.specs.Table.{Row, RegisterByte, noByte, bothNamed, onlyB, onlyA, table, noRow, rowOf}
+
+-- is there a register byte
+unfoldable pub hasByte : RegisterByte → Bool
+hasByte noByte = false
+hasByte bothNamed = true
+hasByte onlyB = true
+hasByte onlyA = true
+
+-- the length that the parts of an instruction add up to: the first byte, a register byte, an 8-byte constant
+unfoldable pub parts : Row → ℕ
+parts row = 1 + cond (hasByte (row .byte)) 1 0 + cond (ltb 8 (row .size)) 8 0
+
+-- a test holds of every row of a list
+abbrev every : (Row → Bool) → List Row → Bool
+every f [] = true
+every f (x ∷ xs) = f x && every f xs
+
+both : (a b : Bool) → T (a && b) → T a × T b
+both true b t = (tt, t)
+both false b t = absurd t
+
+-- and then of the row at any place, the default included
+at : (f : Row → Bool) (xs : List Row) (d : Row) → T (every f xs) → T (f d) → (k : ℕ) → T (f (getD xs k d))
+at f [] d t e k = e
+at f (x ∷ xs) d t e zero = both (f x) (every f xs) t .0
+at f (x ∷ xs) d t e (suc k) = at f xs d (both (f x) (every f xs) t .1) e k
+
+-- the rule: the length of a row is that of its parts
+pub length-rule : (code : ℕ) → rowOf code .size ≡ parts (rowOf code)
+unfolding table rowOf parts hasByte
+length-rule code = eqb→eq _ _ (at (λ row. eqb (row .size) (parts row)) table noRow tt tt code)
+
+-- with a register byte there are two bytes at least
+pub two : (row : Row) → T (hasByte (row .byte)) → 2 ≤ parts row
+unfolding parts
+two row t = go (hasByte (row .byte)) t
+  where
+    go : (b : Bool) → T b → 2 ≤ 1 + cond b 1 0 + cond (ltb 8 (row .size)) 8 0
+    go true t = omega arith
+    go false t = absurd t

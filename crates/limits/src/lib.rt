@@ -1,0 +1,23 @@
+// The tests of document 01's table of refusals that both engines and the host edge share.
+ghost use mathlib.Core.Path.{_≡_};
+ghost use Rattle.machine.specs.Runs.{sizeRefused, budgetRefused};
+
+// Refusal 1: no memory, or more than 4,096 bytes.
+pub fn size_refused(size: usize) -> bool
+    ensures { λ r. ⌜ r ≡ sizeRefused size ⌝ }
+{
+    (size == 0) | (4096 < size)
+}
+
+// Refusal 3: no budget, or one that passes the limit; no sum is made that could wrap.
+pub fn budget_refused(limit: u64, count: u64, budget: u64) -> bool
+    ensures { λ r. ⌜ r ≡ budgetRefused limit count budget ⌝ }
+{
+    if budget == 0 {
+        return true;
+    }
+    if limit < budget {
+        return true;
+    }
+    limit - budget < count
+}

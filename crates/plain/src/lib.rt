@@ -1,0 +1,212 @@
+// The plain engine: one instruction at a time.
+use isa::accessing::access;
+use isa::accessing::update;
+use isa::decoding::is_bad;
+use isa::decoding::loaded_target;
+use isa::decoding::result_target;
+use isa::decoding::source_a;
+use isa::decoding::source_b;
+use isa::decoding::value;
+use isa::executing::execute;
+use isa::executing::new_codes;
+use isa::executing::next_address;
+use isa::fetching::fetch;
+use machine::Accessed;
+use machine::Codes;
+use machine::Decoded;
+use machine::Instruction;
+use machine::Machine;
+use machine::Status;
+ghost use mathlib.Core.Path.{_≡_};
+ghost use mathlib.Core.Bool.{Bool, true, false};
+ghost use mathlib.Core.List.{[], _∷_};
+ghost use Prim.Native.Nat.{_+_, _≤_, _<_};
+ghost use lib.ListN.{set};
+ghost use Rattle.machine.specs.Types.{isBad};
+ghost use Rattle.machine.specs.Memory.{value as valueOf};
+ghost use Rattle.machine.specs.Stages.{decode};
+ghost use Rattle.machine.specs.Plain.{plainStart, plainOf, step as stepOf, steps};
+ghost use Rattle.machine.specs.Runs.{laid, lowest, sizeRefused, budgetRefused, plainLimit, plainAnswer, plainRun, plainStep};
+ghost use Rattle.plain.specs.Records.{withRegister, afterPerformed, afterStop, RunsTo};
+
+// What an entry answers: document 01's number, and the record.
+pub struct Answer {
+    pub number: u64,
+    pub machine: Machine,
+}
+
+// A fresh start.
+pub fn start(registers: [u64; 15], codes: Codes, address: u64) -> Machine
+    ensures { λ r. ⌜ r ≡ plainStart registers codes address ⌝ }
+{
+    Machine {
+        registers,
+        codes,
+        address,
+        status: Status::Aok,
+        last: address,
+        count: 0,
+    }
+}
+
+fn is_stopped(m: Machine) -> bool
+    ensures { λ r. ⌜ r ≡ isBad (m .status) ⌝ }
+{
+    let status = m.status;
+    is_bad(status)
+}
+
+// The record with one register changed: 15 changes nothing.
+fn with_register(m: Machine, q: u8, v: u64) -> Machine
+    ensures { λ r. ⌜ r ≡ withRegister m q v ⌝ }
+{
+    let mut next = m;
+    if q < 15 {
+        let k = q as usize;
+        next.registers[k] = v;
+    }
+    next
+}
+
+fn decoded(m: Machine, i: Instruction) -> Decoded
+    ensures { λ r. ⌜ r ≡ decode i (valueOf (m .registers)) ⌝ }
+{
+    let registers = m.registers;
+    Decoded {
+        instruction: i,
+        a: value(&registers, source_a(i)),
+        b: value(&registers, source_b(i)),
+    }
+}
+
+// The record after an instruction with AOK: the result is written first, and then the loaded word.
+fn after_performed(m: Machine, x: Decoded, w: Accessed) -> Machine
+    requires { ⌜ m .count < 65536 ⌝ }
+    ensures { λ r. ⌜ r ≡ afterPerformed m x w ⌝ }
+{
+    let i = w.instruction;
+    let codes = m.codes;
+    let one = with_register(m, result_target(i, w.holds), w.result);
+    let both = with_register(one, loaded_target(i), w.word);
+    let registers = both.registers;
+    Machine {
+        registers,
+        codes: new_codes(x, codes),
+        address: next_address(w),
+        status: Status::Aok,
+        last: m.address,
+        count: m.count + 1,
+    }
+}
+
+// The record after the stopping instruction.
+fn after_stop(m: Machine, status: Status) -> Machine
+    requires { ⌜ m .count < 65536 ⌝ }
+    ensures { λ r. ⌜ r ≡ afterStop m status ⌝ }
+{
+    let registers = m.registers;
+    let codes = m.codes;
+    Machine {
+        registers,
+        codes,
+        address: m.address,
+        status,
+        last: m.address,
+        count: m.count + 1,
+    }
+}
+
+// One instruction of a machine that runs.
+fn advance(m: Machine, memory: &mut [u8]) -> Machine
+    requires { ⌜ (m .count < 65536) × (isBad (m .status) ≡ false) ⌝ }
+    ensures { λ r. ⌜ (r ≡ stepOf (plainOf m (now (memory .entry))) .machine) × (now (memory .exit) ≡ stepOf (plainOf m (now (memory .entry))) .memory) ⌝ }
+{
+    let i = fetch(memory, m.address);
+    let x = decoded(m, i);
+    let codes = m.codes;
+    let e = execute(x, codes);
+    let w = access(e, memory);
+    let status = w.status;
+    if is_bad(status) {
+        return after_stop(m, status);
+    }
+    update(e, memory);
+    after_performed(m, x, w)
+}
+
+// Place k of a log, where the log has one.
+fn note(log: &mut [u64], k: u64, address: u64)
+    ensures { λ _. ⌜ now (log .exit) ≡ set (now (log .entry)) k address ⌝ }
+{
+    if k < log.len() as u64 {
+        let at = k as usize;
+        log[at] = address;
+    }
+}
+
+// The loop of both entries.
+fn run_on(m: Machine, memory: &mut [u8], budget: u64, log: &mut [u64]) -> Machine
+    requires { ⌜ m .count + budget ≤ 65536 ⌝ }
+    ensures { λ r. ⌜ RunsTo m (now (memory .entry)) budget (now (log .entry)) r (now (memory .exit)) (now (log .exit)) ⌝ }
+{
+    let mut s = m;
+    let mut done: u64 = 0;
+    while done < budget && !is_stopped(s) {
+        note(log, done, s.address);
+        s = advance(s, memory);
+        done += 1;
+    }
+    s
+}
+
+// The lowest refusal that applies, or 0.
+fn refusal(size: usize, count: u64, budget: u64, short: bool) -> u64
+    ensures { λ r. ⌜ r ≡ lowest ((1, sizeRefused size) ∷ (3, budgetRefused plainLimit count budget) ∷ (4, short) ∷ []) ⌝ }
+{
+    if limits::size_refused(size) {
+        return 1;
+    }
+    if limits::budget_refused(65536, count, budget) {
+        return 3;
+    }
+    if short {
+        return 4;
+    }
+    0
+}
+
+// A run with an instruction budget and a lent log of addresses.
+pub fn run(machine: Machine, memory: &mut [u8], budget: u64, log: &mut [u64]) -> Answer
+    ensures { λ r. ⌜ plainAnswer (r .number) (r .machine) (now (memory .exit)) (now (log .exit)) ≡ plainRun machine (now (memory .entry)) budget (now (log .entry)) ⌝ }
+{
+    let number = refusal(
+        memory.len(),
+        machine.count,
+        budget,
+        (log.len() as u64) < budget,
+    );
+    if number != 0 {
+        return Answer { number, machine };
+    }
+    let end = run_on(machine, memory, budget, log);
+    Answer {
+        number: 0,
+        machine: end,
+    }
+}
+
+// A step is a run of 1 without a log.
+pub fn step(machine: Machine, memory: &mut [u8]) -> Answer
+    ensures { λ r. ⌜ plainAnswer (r .number) (r .machine) (now (memory .exit)) [] ≡ plainStep machine (now (memory .entry)) ⌝ }
+{
+    let number = refusal(memory.len(), machine.count, 1, false);
+    if number != 0 {
+        return Answer { number, machine };
+    }
+    let mut own = [0u64; 1];
+    let end = run_on(machine, memory, 1, &mut own);
+    Answer {
+        number: 0,
+        machine: end,
+    }
+}
