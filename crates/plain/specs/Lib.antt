@@ -1,1 +1,4 @@
 pub mod Records
+pub mod Logs
+pub mod Steps
+pub mod Joined

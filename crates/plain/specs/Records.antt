@@ -1,6 +1,6 @@
 -- The records that the inner functions of the engine make, in the words of the definitions.
 use Prim.Native.Nat.{ℕ, _+_}
-use mathlib.Core.List.{List, []}
+use mathlib.Core.List.{List}
 use mathlib.Core.Path.{_≡_}
 use Rattle.machine.specs.declared.Machine.{Machine}
 use Rattle.machine.specs.declared.Decoded.{Decoded}

@@ -1,0 +1,41 @@
+use Rattle.plain.proofs.Ways.{performed-is}
+use borrow.Author.Needs.{needs}
+use Rattle.plain.proofs.after_performed.Statement.{statement}
+use Rattle.plain.proofs.after_performed.Tie as tie
+
+result-target-requires : tie.Need-result-target-requires
+result-target-requires c κs = search needs
+
+with-register-requires : tie.Need-with-register-requires
+with-register-requires c κs = search needs
+
+loaded-target-requires : tie.Need-loaded-target-requires
+loaded-target-requires c κs = search needs
+
+with-register-requires-2 : tie.Need-with-register-requires-2
+with-register-requires-2 c κs = search needs
+
+new-codes-requires : tie.Need-new-codes-requires
+new-codes-requires c κs = search needs
+
+next-address-requires : tie.Need-next-address-requires
+next-address-requires c κs = search needs
+
+add-t13 : tie.Need-add-t13
+add-t13 c = search needs
+
+returns : tie.Need-returns
+returns c = search (needs, performed-is)
+
+pub after-performed-spec : {M : Type 1} → statement M
+after-performed-spec =
+    tie.close
+    (tie.spec
+    result-target-requires
+    with-register-requires
+    loaded-target-requires
+    with-register-requires-2
+    new-codes-requires
+    next-address-requires
+    add-t13
+    returns)

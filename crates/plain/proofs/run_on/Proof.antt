@@ -1,0 +1,71 @@
+use Rattle.plain.proofs.Ways.{runs-on, Goes, goes-first, goes-on, goes-over, goes-out}
+use borrow.Author.Needs.{needs}
+use native.Mathlib.Omega.{arith}
+use Prim.Native.Nat.{_-_}
+use Rattle.plain.proofs.run_on.Statement.{statement}
+use Rattle.plain.proofs.run_on.Tie as tie
+
+abbrev Inv-loop : tie.InvT-loop
+Inv-loop memory₀ budget log₀ s₀ done₀ memory log s done = Goes s₀ memory₀ budget log₀ s memory log done
+
+abbrev μ-loop : tie.MeasureT-loop
+μ-loop memory₀ budget log₀ s₀ done₀ memory log s done = budget - done
+
+loop-holds : tie.Need-loop-holds Inv-loop μ-loop
+loop-holds c = goes-first _ _ _ _ (c .before .before .pre)
+
+is-stopped-requires : tie.Need-is-stopped-requires Inv-loop μ-loop
+is-stopped-requires c κs = search needs
+
+note-requires : tie.Need-note-requires Inv-loop μ-loop
+note-requires c κs = search needs
+
+advance-requires : tie.Need-advance-requires Inv-loop μ-loop
+advance-requires c κs = (omega (arith, c .before .before .before .before .before .before .before .before .loop .inv .counted, c .before .before .before .before .before .before .before .loop-test .taken), runs-on _ _ (c .before .before .before .before .before .before .is-stopped .ensures) (c .before .before .before .before .before .if1 .taken))
+
+add-done : tie.Need-add-done Inv-loop μ-loop
+add-done c = omega arith
+
+loop-less : tie.Need-loop-less Inv-loop μ-loop
+loop-less c = omega arith
+
+loop-again : tie.Need-loop-again Inv-loop μ-loop
+loop-again c = goes-on _ _ _ _ _ _ _ _ (c .before .before .before .before .before .before .before .before .before .before .before .loop .inv) _ _ _ _ (c .before .before .before .before .before .before .before .before .before .before .loop-test .taken) (c .before .before .before .before .before .before .before .before .before .is-stopped .ensures) (c .before .before .before .before .before .before .before .before .if1 .taken) (c .before .before .advance .kept .1 .0) (c .before .before .before .before .before .before .note .ensures) (c .before .before .advance .ensures)
+
+same-length : tie.Need-same-length Inv-loop μ-loop
+same-length c = c .before .before .before .loop .inv .memory-long
+
+same-length-2 : tie.Need-same-length-2 Inv-loop μ-loop
+same-length-2 c = c .before .before .before .loop .inv .log-long
+
+returns : tie.Need-returns Inv-loop μ-loop
+returns c = goes-over _ _ _ _ _ _ _ _ (c .before .before .before .loop .inv) _ (c .before .is-stopped .ensures) (c .if1 .left)
+
+same-length-3 : tie.Need-same-length-3 Inv-loop μ-loop
+same-length-3 c = c .before .loop .inv .memory-long
+
+same-length-4 : tie.Need-same-length-4 Inv-loop μ-loop
+same-length-4 c = c .before .loop .inv .log-long
+
+returns-2 : tie.Need-returns-2 Inv-loop μ-loop
+returns-2 c = goes-out _ _ _ _ _ _ _ _ (c .before .loop .inv) (c .loop-test .left)
+
+pub run-on-spec : {M : Type 1} → statement M
+run-on-spec =
+    tie.close
+    (tie.spec
+    Inv-loop
+    μ-loop
+    loop-holds
+    is-stopped-requires
+    note-requires
+    advance-requires
+    add-done
+    loop-less
+    loop-again
+    same-length
+    same-length-2
+    returns
+    same-length-3
+    same-length-4
+    returns-2)
