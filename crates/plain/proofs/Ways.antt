@@ -184,14 +184,14 @@ either : (a b : Bool) → a || b ≡ false → b ≡ false
 either true b h = absurd (true≢false h)
 either false b h = h
 
-module _ (logs : List ℕ) (k : Machine) (m : Memory) (budget : ℕ) (log : List ℕ) (n : ℕ) (h : n ≡ plainRefusal (length m) (k .count) budget logs) where
-  pub within-limit : n ≡ 0 → k .count + budget ≤ 65536
-  unfolding plainRefusal lowest budgetRefused
-  within-limit z =
-      let p = failed (sizeRefused (length m)) 0 _ (sym h ∙ z) in
-      let q = failed (budgetRefused plainLimit (k .count) budget) 2 _ (p .1) in
-      ltb-false plainLimit (k .count + budget) (either (eqb budget 0) (ltb plainLimit (k .count + budget)) (q .0))
+pub within-limit : (size count budget n : ℕ) (short : Bool) → n ≡ lowest ((1, sizeRefused size) ∷ (3, budgetRefused plainLimit count budget) ∷ (4, short) ∷ []) → n ≡ 0 → count + budget ≤ 65536
+unfolding lowest budgetRefused
+within-limit size count budget n short h z =
+    let p = failed (sizeRefused size) 0 _ (sym h ∙ z) in
+    let q = failed (budgetRefused plainLimit count budget) 2 _ (p .1) in
+    ltb-false plainLimit (count + budget) (either (eqb budget 0) (ltb plainLimit (count + budget)) (q .0))
 
+module _ (logs : List ℕ) (k : Machine) (m : Memory) (budget : ℕ) (log : List ℕ) (n : ℕ) (h : n ≡ plainRefusal (length m) (k .count) budget logs) where
   pub refuses : (n ≡ 0 → ⊥) → plainAnswer n k m log ≡ plainBy logs k m budget log
   unfolding plainBy
   refuses z = cc (ne-eqb n 0 z)

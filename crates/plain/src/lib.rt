@@ -86,8 +86,10 @@ fn after_performed(m: Machine, x: Decoded, w: Accessed) -> Machine
 {
     let i = w.instruction;
     let codes = m.codes;
-    let one = with_register(m, result_target(i, w.holds), w.result);
-    let both = with_register(one, loaded_target(i), w.word);
+    let target = result_target(i, w.holds);
+    let loaded = loaded_target(i);
+    let one = with_register(m, target, w.result);
+    let both = with_register(one, loaded, w.word);
     let registers = both.registers;
     Machine {
         registers,

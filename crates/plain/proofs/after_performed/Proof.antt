@@ -6,11 +6,11 @@ use Rattle.plain.proofs.after_performed.Tie as tie
 result-target-requires : tie.Need-result-target-requires
 result-target-requires c κs = search needs
 
-with-register-requires : tie.Need-with-register-requires
-with-register-requires c κs = search needs
-
 loaded-target-requires : tie.Need-loaded-target-requires
 loaded-target-requires c κs = search needs
+
+with-register-requires : tie.Need-with-register-requires
+with-register-requires c κs = search needs
 
 with-register-requires-2 : tie.Need-with-register-requires-2
 with-register-requires-2 c κs = search needs
@@ -21,8 +21,8 @@ new-codes-requires c κs = search needs
 next-address-requires : tie.Need-next-address-requires
 next-address-requires c κs = search needs
 
-add-t13 : tie.Need-add-t13
-add-t13 c = search needs
+add-t14 : tie.Need-add-t14
+add-t14 c = search needs
 
 returns : tie.Need-returns
 returns c = search (needs, performed-is)
@@ -32,10 +32,10 @@ after-performed-spec =
     tie.close
     (tie.spec
     result-target-requires
-    with-register-requires
     loaded-target-requires
+    with-register-requires
     with-register-requires-2
     new-codes-requires
     next-address-requires
-    add-t13
+    add-t14
     returns)

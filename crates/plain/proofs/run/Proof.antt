@@ -1,5 +1,4 @@
-use Rattle.plain.proofs.Ways.{one-log, within-limit, run-refuses, run-ends}
-use mathlib.Core.List.{[]}
+use Rattle.plain.proofs.Ways.{within-limit, run-refuses, run-ends}
 use borrow.Author.Needs.{needs}
 use Rattle.plain.proofs.run.Statement.{statement}
 use Rattle.plain.proofs.run.Tie as tie
@@ -11,7 +10,7 @@ returns : tie.Need-returns
 returns c = run-refuses _ _ _ _ _ (c .before .refusal .ensures) (c .if1 .taken)
 
 run-on-requires : tie.Need-run-on-requires
-run-on-requires c κs = within-limit _ _ _ _ [] _ (one-log _ _ _ _ _ (c .before .before .before .refusal .ensures)) (c .before .before .if1 .left)
+run-on-requires c κs = within-limit _ _ _ _ _ (c .before .before .before .refusal .ensures) (c .before .before .if1 .left)
 
 same-length : tie.Need-same-length
 same-length c = search needs

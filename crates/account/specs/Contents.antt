@@ -1,0 +1,183 @@
+-- No record that a fresh start reaches is refused for its contents, so a run can always be continued.
+use Prim.Native.Nat.{ℕ, zero, suc, _+_, _/_, _%_, _≤_, _<_}
+use mathlib.Core.Bool.{Bool, true, false, cond, _&&_, _||_}
+use mathlib.Core.List.{List, [], _∷_}
+use mathlib.Core.Path.{_≡_, refl, sym, subst}
+use native.Mathlib.Omega.{arith}
+use native.Mathlib.Decide.{decLt, ℕ-discrete}
+use native.Mathlib.Nat.{div-lt-iff-lt-mul, mod-lt}
+use borrow.Author.Tests.{le-ltb, leb-false, ne-eqb}
+use lib.Dec.{ltb, leb}
+use lib.ListN.{length, getD, set, take, drop, length-set, List·getD-eq-default}
+use lib.Seq.{getD-set-same, getD-set-other, getD-drop}
+use Rattle.account.specs.Names.{Status, Instruction, Executed, Accessed, Kept, StageD, bubbleD, inD, StageE, bubbleE, inE, StageM, bubbleM, inM, StageW, bubbleW, inW}
+use Rattle.machine.specs.Words.{placed}
+use Rattle.machine.specs.Memory.{Memory, inside, store}
+use Rattle.machine.specs.Table.{RegisterByte, noByte, bothNamed, onlyB, onlyA, rowOf, table, is, cmov, jump, operation}
+use Rattle.machine.specs.Fetch.{fetch, parsed, stopping, half, ownBytes, sizeAt}
+use Rattle.machine.specs.Stages.{decode, execute, access, stores, accessAddress, storedWord, newMemory}
+use Rattle.machine.specs.Prediction.{Settings}
+use Rattle.machine.specs.Charges.{retiredOf}
+use Rattle.machine.specs.Pipeline.{Piped, pipeStart, afterE, afterM, memoryAfter, mispredicts, waits, returns, fails, fetchedNow, fetchAddress, nextD, decodedD, nextE, nextM, keptAfter, advanced, stoppedIn, clocks}
+use Rattle.machine.specs.Runs.{instructionRefused, refusedInD, refusedInE, refusedInM, refusedInW, refusedKept, countsRefused, recordRefused, sizeRefused, budgetRefused, logRefused, lowest, pipeLimit, pipeRefusal}
+use Rattle.account.specs.Statement.{Start, pipedFrom}
+use Rattle.account.specs.Laws.{checked-any}
+use Rattle.account.specs.Timing.{total}
+use Rattle.account.specs.Retirement.{clock-any}
+use Rattle.account.specs.Own.{counts-within}
+
+-- "Memory is N lent bytes"
+abbrev pub Bytes : Memory → Type 0
+Bytes m = (x : ℕ) → getD m x 0 < 256
+
+-- BYTES STAY BYTES
+bytes-take : (n : ℕ) (m : Memory) → Bytes m → Bytes (take n m)
+bytes-take zero m h x = omega arith
+bytes-take (suc n) [] h x = omega arith
+bytes-take (suc n) (b ∷ m) h zero = h 0
+bytes-take (suc n) (b ∷ m) h (suc x) = bytes-take n m (λ y. h (suc y)) x
+
+bytes-own : (m : Memory) (a : ℕ) → Bytes m → Bytes (ownBytes m a)
+unfolding ownBytes
+bytes-own m a h = bytes-take (sizeAt m a) (drop a m) (λ x. subst (λ (y : ℕ). y < 256) (sym (getD-drop a m x 0)) (h (a + x)))
+
+bytes-set : (m : Memory) (a v : ℕ) → v < 256 → Bytes m → Bytes (set m a v)
+bytes-set m a v b h x = go (ℕ-discrete a x) (decLt x (length m))
+  where
+    go : Dec (a ≡ x) → Dec (x < length m) → getD (set m a v) x 0 < 256
+    go _ (no q) = subst (λ (y : ℕ). y < 256) (sym (List·getD-eq-default (set m a v) 0 (omega (arith, length-set m a v)))) (omega arith)
+    go (yes e) (yes q) = subst (λ (y : ℕ). getD (set m a v) y 0 < 256) e (subst (λ (y : ℕ). y < 256) (sym (getD-set-same m a v 0 (omega arith))) b)
+    go (no e) (yes q) = subst (λ (y : ℕ). y < 256) (sym (getD-set-other m a x v 0 (λ z. e (sym z)))) (h x)
+
+bytes-placed : (k : ℕ) (m : Memory) (a v : ℕ) → Bytes m → Bytes (placed k m a v)
+unfolding placed
+bytes-placed zero m a v h = h
+bytes-placed (suc k) m a v h = bytes-placed k (set m a (v % 256)) (a + 1) (v / 256) (bytes-set m a (v % 256) (mod-lt v (omega arith)) h)
+
+bytes-stored : (x : Executed) (m : Memory) → Bytes m → Bytes (newMemory x m)
+unfolding newMemory store
+bytes-stored x m h = go (stores (x .instruction)) (inside m (accessAddress x))
+  where
+    go : (b c : Bool) → Bytes (cond b (cond c (placed 8 m (accessAddress x) (storedWord x)) m) m)
+    go false c = h
+    go true false = h
+    go true true = bytes-placed 8 m (accessAddress x) (storedWord x) h
+
+-- A FETCHED INSTRUCTION is not refused
+stopping-fits : (a : ℕ) (x : Status) → instructionRefused (stopping a x) ≡ false
+unfolding instructionRefused stopping rowOf table is
+stopping-fits a x = refl
+
+half-fits : (y : RegisterByte) (x : ℕ) → x < 16 → ltb 15 (half y x) ≡ false
+unfolding half
+half-fits noByte x h = refl
+half-fits bothNamed x h = le-ltb 15 x (omega arith)
+half-fits onlyB x h = le-ltb 15 x (omega arith)
+half-fits onlyA x h = le-ltb 15 x (omega arith)
+
+and-false : (b : Bool) → b && false ≡ false
+and-false true = refl
+and-false false = refl
+
+fits : (i : Instruction) → ltb 15 (i .ra) ≡ false → ltb 15 (i .rb) ≡ false → leb (rowOf (i .code) .functions) (i .function) ≡ false → instructionRefused i ≡ false
+unfolding instructionRefused
+fits i a b f =
+    cc (
+      ne-eqb (rowOf (i .code) .functions) 0 (λ e. omega (arith, leb-false (rowOf (i .code) .functions) (i .function) f)),
+      and-false (is cmov i || (is jump i || is operation i)),
+    )
+
+fetch-fits : (m : Memory) (a : ℕ) → Bytes m → instructionRefused (fetch m a) ≡ false
+unfolding fetch parsed
+fetch-fits m a h =
+    checked-any (λ i. instructionRefused i ≡ false) _ _ _ _ _ _ (stopping-fits a)
+    (λ n. fits _ (half-fits _ _ (div-lt-iff-lt-mul (omega arith) .1 (omega (arith, bytes-own m a h 1)))) (half-fits _ _ (mod-lt (getD (ownBytes m a) 1 0) (omega arith))) n)
+
+-- A CLOCK passes on what it holds
+cond-any : {A : Type 0} (P : A → Type 0) (b : Bool) (x y : A) → P x → P y → P (cond b x y)
+cond-any P true x y h k = h
+cond-any P false x y h k = k
+
+decoded-fits : (p : Piped) (d : StageD) → refusedInD d ≡ false → refusedInE (decodedD p d) ≡ false
+unfolding decodedD decode refusedInD refusedInE
+decoded-fits p bubbleD h = refl
+decoded-fits p (inD i) h = h
+
+executed-fits : (p : Piped) (e : StageE) → refusedInE e ≡ false → refusedInM (afterE e (p .pipeline .codes)) ≡ false
+unfolding afterE execute refusedInE refusedInM
+executed-fits p bubbleE h = refl
+executed-fits p (inE x) h = h
+
+accessed-fits : (p : Piped) (m : StageM) → refusedInM m ≡ false → refusedInW (afterM m (p .memory)) ≡ false
+unfolding afterM access refusedInM refusedInW
+accessed-fits p bubbleM h = refl
+accessed-fits p (inM x) h = h
+
+kept-fits : (w : StageW) (k : Kept) → refusedInW w ≡ false → refusedKept k ≡ false → refusedKept (keptAfter w k) ≡ false
+unfolding keptAfter retiredOf refusedInW refusedKept
+kept-fits bubbleW k h l = l
+kept-fits (inW w) k h l = h
+
+bytes-after : (m : StageM) (y : Memory) → Bytes y → Bytes (memoryAfter m y)
+unfolding memoryAfter
+bytes-after bubbleM y h = h
+bytes-after (inM x) y h = bytes-stored x y h
+
+record Fits (p : Piped) : Type 0 where
+  bytes : Bytes (p .memory)
+  inD′ : refusedInD (p .pipeline .d) ≡ false
+  inE′ : refusedInE (p .pipeline .e) ≡ false
+  inM′ : refusedInM (p .pipeline .m) ≡ false
+  inW′ : refusedInW (p .pipeline .w) ≡ false
+  kept : refusedKept (p .pipeline .kept) ≡ false
+
+module _ (g : Settings) (p : Piped) (h : Fits p) where
+  fits-advanced : Fits (advanced g p)
+  unfolding advanced nextD nextE nextM fetchedNow refusedInD refusedInE refusedInM
+  fits-advanced =
+      record {
+        bytes = bytes-after (p .pipeline .m) (p .memory) (h .bytes);
+        inD′ =
+            cond-any (λ d. refusedInD d ≡ false) (mispredicts g p) _ _ refl
+            (cond-any (λ d. refusedInD d ≡ false) (waits g p) _ _ (h .inD′)
+            (cond-any (λ d. refusedInD d ≡ false) (returns p) _ _ refl (fetch-fits (p .memory) (fetchAddress g p) (h .bytes))));
+        inE′ = cond-any (λ e. refusedInE e ≡ false) (mispredicts g p || waits g p) _ _ refl (decoded-fits p (p .pipeline .d) (h .inD′));
+        inM′ = cond-any (λ m. refusedInM m ≡ false) (fails p) _ _ refl (executed-fits p (p .pipeline .e) (h .inE′));
+        inW′ = accessed-fits p (p .pipeline .m) (h .inM′);
+        kept = kept-fits (p .pipeline .w) (p .pipeline .kept) (h .inW′) (h .kept);
+      }
+
+  fits-stopped : (w : Accessed) → Fits (stoppedIn g p w)
+  unfolding stoppedIn
+  fits-stopped w = record { bytes = h .bytes; inD′ = h .inD′; inE′ = h .inE′; inM′ = h .inM′; inW′ = h .inW′; kept = h .kept }
+
+-- THE COUNTS
+counts-fit : (p : Piped) → p .pipeline .retired + total (p .pipeline .kinds) ≤ p .pipeline .cycles → countsRefused (p .pipeline) ≡ false
+unfolding countsRefused total
+counts-fit p h =
+    cc (
+      le-ltb (p .pipeline .cycles) (p .pipeline .retired) (omega arith),
+      le-ltb (p .pipeline .cycles) (p .pipeline .kinds .loaduse) (omega arith),
+      le-ltb (p .pipeline .cycles) (p .pipeline .kinds .mispredict) (omega arith),
+      le-ltb (p .pipeline .cycles) (p .pipeline .kinds .returned) (omega arith),
+    )
+
+module _ (g : Settings) (t : Start) (h : Bytes (t .memory)) where
+  fits-clocks : (c : ℕ) → Fits (clocks g (pipedFrom t) c)
+  unfolding clocks pipedFrom pipeStart refusedInD refusedInE refusedInM refusedInW refusedKept
+  fits-clocks zero = record { bytes = h; inD′ = refl; inE′ = refl; inM′ = refl; inW′ = refl; kept = refl }
+  fits-clocks (suc c) =
+      let k = fits-clocks c in
+      clock-any g (clocks g (pipedFrom t) c) Fits k (fits-advanced g (clocks g (pipedFrom t) c) k) (fits-stopped g (clocks g (pipedFrom t) c) k)
+
+  pub never-refused : (c : ℕ) → recordRefused (clocks g (pipedFrom t) c .pipeline) ≡ false
+  unfolding recordRefused
+  never-refused c =
+      let k = fits-clocks c in
+      cc (counts-fit (clocks g (pipedFrom t) c) (counts-within g t c))
+
+  -- so whoever gives it a size, a budget and logs that fit is not refused
+  pub continues : (c size budget : ℕ) (logs : List ℕ) → sizeRefused size ≡ false → budgetRefused pipeLimit (clocks g (pipedFrom t) c .pipeline .cycles) budget ≡ false
+      → logRefused logs budget ≡ false → pipeRefusal (clocks g (pipedFrom t) c .pipeline) size budget logs ≡ 0
+  unfolding pipeRefusal lowest
+  continues c size budget logs a b d = cc (never-refused c)

@@ -1,0 +1,134 @@
+-- Demand 3 is not vacuous, and its premise is tight: computed.
+use Prim.Native.Nat.{ℕ, suc, _≤_}
+use mathlib.Core.Bool.{Bool, true, false}
+use mathlib.Core.List.{_∷_, _++_}
+use mathlib.Core.Path.{_≡_, refl, ap, sym, _∙_}
+use native.Mathlib.Omega.{arith}
+use lib.ListN.{length, replicate}
+use Rattle.account.specs.Names.{Status, aok, hlt, adr, ins, Kinds}
+use Rattle.machine.specs.Types.{statusNumber, isBad}
+use Rattle.machine.specs.Words
+use Rattle.machine.specs.Memory
+use Rattle.machine.specs.Table
+use Rattle.machine.specs.Fetch
+use Rattle.machine.specs.Stages
+use Rattle.machine.specs.Plain
+use Rattle.machine.specs.Prediction
+use Rattle.machine.specs.Charges
+use Rattle.machine.specs.Pipeline
+use Rattle.machine.specs.Memory.{Memory}
+use Rattle.machine.specs.Plain.{steps}
+use Rattle.machine.specs.Prediction.{Settings, asIn01}
+use Rattle.machine.specs.Charges.{due}
+use Rattle.machine.specs.Pipeline.{clocks}
+use Rattle.account.specs.Statement.{Start, plainFrom, pipedFrom, Agrees, Demand3}
+use Rattle.account.specs.Decide.{UntouchedWithin, untouched, untouched-sound, touches, clear, all}
+
+-- registers 0, codes ZF=1, start 0
+from : Memory → Start
+from m = record { registers = replicate 15 0; codes = record { zf = true; sf = false; of = false }; address = 0; memory = m }
+
+-- what is computed: is the premise met by the first k instructions, with w in place of three; when is the k-th due; the plain engine
+-- after k instructions; and the pipeline after c clocks
+pub record Figures : Type 0 where
+  pub premise : Bool
+  pub dueIn : ℕ
+  pub plainStatus : Status
+  pub plainLast : ℕ
+  pub status : Status
+  pub last : ℕ
+  pub retired : ℕ
+  pub cycles : ℕ
+  pub kinds : Kinds
+
+pub figures : ℕ → Memory → (k c : ℕ) → Figures
+unfolding from
+    Words.sum Words.difference Words.number Words.placed Words.signed Words.outside
+    Memory.inside Memory.load Memory.store Memory.value Memory.written
+    Table.table Table.rowOf Table.is
+    Fetch.sizeAt Fetch.ownBytes Fetch.stopping Fetch.halvesFit Fetch.checked Fetch.half Fetch.constantIn Fetch.parsed Fetch.fetch
+    Stages.register Stages.sourceA Stages.sourceB Stages.decode Stages.operated Stages.overflows Stages.operatedCodes Stages.newCodes
+    Stages.condition Stages.computed Stages.result Stages.outcome Stages.execute Stages.loading Stages.storing Stages.loads
+    Stages.stores Stages.addressed Stages.accessAddress Stages.stored Stages.storedWord Stages.accessStatus Stages.access
+    Stages.newMemory Stages.resultTarget Stages.loadedTarget Stages.newRegisters Stages.turned Stages.straight Stages.nextAddress
+    Plain.plainStart Plain.isStopped Plain.fetched Plain.decoded Plain.executed Plain.accessed Plain.performed Plain.stoppedBy
+    Plain.step Plain.steps
+    Prediction.guess Prediction.predictedNext Prediction.mispredicted Prediction.meets Prediction.loadUse
+    Charges.reasonBehind Charges.amount Charges.noKinds Charges.counted Charges.retiredOf Charges.reasonFrom Charges.reasonOf
+    Charges.charge Charges.charges Charges.due
+    Pipeline.pipeStart Pipeline.afterE Pipeline.afterM Pipeline.codesAfter Pipeline.memoryAfter Pipeline.registersAfter
+    Pipeline.pastResult Pipeline.pastBoth Pipeline.sourceW Pipeline.sourceM Pipeline.source Pipeline.waitsBehind Pipeline.waits
+    Pipeline.wrong Pipeline.mispredicts Pipeline.retInD Pipeline.retInE Pipeline.retInM Pipeline.returns Pipeline.badInW
+    Pipeline.fails Pipeline.returnedTo Pipeline.mended Pipeline.fetchAddress Pipeline.fetchedNow Pipeline.nextF Pipeline.nextD
+    Pipeline.decodedD Pipeline.nextE Pipeline.nextM Pipeline.nextCodes Pipeline.lastAfter Pipeline.retiredAfter Pipeline.kindsAfter
+    Pipeline.keptAfter Pipeline.logged Pipeline.advanced Pipeline.stoppedIn Pipeline.clockBy Pipeline.clock Pipeline.clocks
+    isBad statusNumber plainFrom pipedFrom untouched touches clear all
+figures w m k c =
+    let s = plainFrom (from m) in
+    let p = clocks asIn01 (pipedFrom (from m)) c .pipeline in
+    record {
+      premise = untouched w s k;
+      dueIn = due asIn01 s k;
+      plainStatus = steps s k .machine .status;
+      plainLast = steps s k .machine .last;
+      status = p .status;
+      last = p .last;
+      retired = p .retired;
+      cycles = p .cycles;
+      kinds = p .kinds;
+    }
+
+-- NOT VACUOUS
+-- 0: irmovq $64, %rsp; 10: call 20; 19: the instruction that stops; 20: mrmovq (%rsp), %rax; 30: addq %rax, %rax; 32: je 0; 41: ret
+pub program : ℕ → Memory
+program final =
+    0x30 ∷ 0xf4 ∷ 64 ∷ replicate 7 0
+    ++ (0x80 ∷ 20 ∷ replicate 7 0
+    ++ (final ∷ 0x50 ∷ 0x04 ∷ replicate 8 0
+    ++ (0x60 ∷ 0x00 ∷ 0x73 ∷ replicate 8 0
+    ++ (0x90 ∷ replicate 22 0))))
+
+-- it stops with x at address 19 as the seventh instruction, in cycle 17, and has been charged for each reason
+pub reached : Status → Figures
+reached x =
+    record
+    { premise = true; dueIn = 17; plainStatus = x; plainLast = 19; status = x; last = 19; retired = 7; cycles = 17; kinds = record { loaduse = 1; mispredict = 2; returned = 3 } }
+
+-- the premise is met, every kind of charge is made, and each stop is reached: by a halt, a ret whose word is outside, and a code without functions
+pub each-stop : (figures 3 (program 0x00) 7 17 ≡ reached hlt) × (figures 3 (program 0x90) 7 17 ≡ reached adr) × (figures 3 (program 0xc0) 7 17 ≡ reached ins)
+unfolding figures program reached
+each-stop = (refl, refl, refl)
+
+-- TIGHT
+-- rmmovq %rax, 12(%rcx), and nops: the store writes zeros, halts, at 12 to 19
+pub patching : Memory
+patching = 0x40 ∷ 0x01 ∷ 0x0c ∷ replicate 7 0 ++ replicate 10 0x10
+
+pub patched : (premise : Bool) → Status → (last retired cycles : ℕ) → Figures
+patched b x a n c =
+    record { premise = b; dueIn = 8; plainStatus = hlt; plainLast = 12; status = x; last = a; retired = n; cycles = c; kinds = record { loaduse = 0; mispredict = 0; returned = 0 } }
+
+-- no store writes a byte of the next two, one writes a byte of the next three; the plain engine stops at 12, the pipeline goes on and stops at 13
+pub two-differ : (figures 2 patching 4 8 ≡ patched true aok 12 4 8) × (figures 3 patching 4 9 ≡ patched false hlt 13 5 9)
+unfolding figures patching patched
+two-differ = (refl, refl)
+
+-- demand 3 with w instructions in place of three; with three it is demand 3 itself
+abbrev pub Demand3Within : ℕ → Type 0
+Demand3Within w =
+    (g : Settings) (t : Start) → length (t .registers) ≡ 15 → (k : ℕ) → UntouchedWithin w (plainFrom t) (suc k)
+    → (c : ℕ) → c ≤ due g (plainFrom t) (suc k) → (n : ℕ) × Agrees g (plainFrom t) (clocks g (pipedFrom t) c) c n
+
+pub with-three : Demand3 → Demand3Within 3
+with-three d = d
+
+-- with two it is false
+pub two-are-too-few : Demand3Within 2 → ⊥
+unfolding figures patching statusNumber
+two-are-too-few d = go (d asIn01 (from patching) refl 3 (untouched-sound 2 (plainFrom (from patching)) 4 refl) 8 (omega arith))
+  where
+    go : (n : ℕ) × Agrees asIn01 (plainFrom (from patching)) (clocks asIn01 (pipedFrom (from patching)) 8) 8 n → ⊥
+    go x =
+        let four : 4 ≡ x .0 = x .1 .retired in
+        let clash : statusNumber aok ≡ statusNumber hlt = ap statusNumber (x .1 .status ∙ ap (λ (n : ℕ). steps (plainFrom (from patching)) n .machine .status) (sym four)) in
+        omega (arith, clash)

@@ -1,0 +1,398 @@
+-- What the control proof uses of the instruction set and of the plain step. A new instruction, or another row of the table, has to keep these.
+use Prim.Native.Nat.{ℕ, zero, suc, _+_}
+use mathlib.Core.Bool.{Bool, true, false, cond, not, _&&_, _||_, Bool·beq, true≢false}
+use mathlib.Core.List.{[], _∷_, _++_}
+use mathlib.Core.Path.{_≡_, refl, ap, sym, _∙_}
+use native.Mathlib.Omega.{arith}
+use borrow.Author.Tests.{ltb-true, eqb-true, eqb-false}
+use lib.Dec.{ltb, eqb}
+use lib.ListN.{length, set, length-set}
+use lib.Seq.{getD-set-same, getD-set-other}
+use Rattle.account.specs.Names.{Status, aok, hlt, adr, ins, Codes, Instruction, Decoded, Accessed, Retired, inM, inW}
+use Rattle.machine.specs.Types.{isBad}
+use Rattle.machine.specs.Memory.{Registers, inside, store, value, written}
+use Rattle.machine.specs.Table.{rowOf, table, is, operation, cmov, jump, ret}
+use Rattle.machine.specs.Fetch.{fetch, parsed, checked, stopping}
+use Rattle.machine.specs.Stages.{register, decode, execute, access, outcome, condition, loads, stores, loading, storing, accessAddress, accessStatus, newCodes, newMemory, newRegisters, resultTarget, loadedTarget, sourceA, sourceB, turned, straight, nextAddress}
+use Rattle.machine.specs.Plain.{Plain, isStopped, fetched, decoded, executed, accessed, performed, stoppedBy, step, steps}
+use Rattle.machine.specs.Prediction.{Settings, Rule, taken, guess, predictedNext, mispredicted, meets, loadUse}
+use Rattle.machine.specs.Charges.{reasonBehind, retiredOf, amount, reasonOf, charge, charges, due}
+use Rattle.machine.specs.Pipeline.{pastResult, pastBoth}
+
+-- 1 or 0
+unfoldable pub bit : Bool → ℕ
+bit true = 1
+bit false = 0
+
+pub or-true : (b : Bool) → b || true ≡ true
+or-true true = refl
+or-true false = refl
+
+pub or-false : (a b : Bool) → a || b ≡ false → (a ≡ false) × (b ≡ false)
+or-false true b h = (h, cc)
+or-false false b h = (refl, h)
+
+pub sound : (x : Status) → isBad x ≡ false → x ≡ aok
+unfolding isBad
+sound aok h = refl
+sound hlt h = cc
+sound adr h = cc
+sound ins h = cc
+
+-- FETCH
+-- the fetched instruction carries its address, and one with a bad status is a nop
+record Fetched (a : ℕ) (i : Instruction) : Type 0 where
+  here : i .address ≡ a
+  nop : isBad (i .status) ≡ true → i .code ≡ 1
+
+-- what holds of every stopping instruction, and of the one read where code and function are in the table, holds of the checked one
+pub checked-any : (P : Instruction → Type 0) (f n l r h : Bool) (i : Instruction) → ((x : Status) → P (stopping (i .address) x)) → (n ≡ false → P i) → P (checked f n l r h i)
+unfolding checked
+checked-any P true n l r h i s k = s adr
+checked-any P false true l r h i s k = s ins
+checked-any P false false true r h i s k = s adr
+checked-any P false false false true h i s k = s ins
+checked-any P false false false false true i s k = s hlt
+checked-any P false false false false false i s k = k refl
+
+fetched-as : (s : Plain) → Fetched (s .machine .address) (fetched s)
+unfolding fetched fetch parsed stopping isBad
+fetched-as s =
+    checked-any (Fetched (s .machine .address)) _ _ _ _ _ _ (λ x. record { here = refl; nop = λ h. refl }) (λ n. record { here = refl; nop = λ h. absurd (true≢false (sym h)) })
+
+pub fetched-address : (s : Plain) → fetched s .address ≡ s .machine .address
+fetched-address s = fetched-as s .here
+
+-- the instruction as it travels
+pub in-decoded : (s : Plain) → decoded s .instruction ≡ fetched s
+unfolding decoded decode
+in-decoded s = refl
+
+pub in-executed : (s : Plain) → executed s .instruction ≡ fetched s
+unfolding executed execute decoded decode
+in-executed s = refl
+
+pub in-accessed : (s : Plain) → accessed s .instruction ≡ fetched s
+unfolding accessed access executed execute decoded decode
+in-accessed s = refl
+
+-- STOPPING
+nop-stores : (i : Instruction) → i .code ≡ 1 → stores i ≡ false
+unfolding stores storing rowOf table
+nop-stores i h = rw h
+
+nop-sets : (i : Instruction) → i .code ≡ 1 → is operation i ≡ false
+unfolding is
+nop-sets i h = rw h
+
+-- OPq accesses nothing
+sets-loads : (i : Instruction) → is operation i ≡ true → (loads i ≡ false) × (stores i ≡ false)
+unfolding is loads stores loading storing rowOf table
+sets-loads i h = let k = eqb-true (i .code) 6 h in (rw k, rw k)
+
+-- a stopping instruction stores nothing and sets no codes
+quiet-memory : (s : Plain) → isBad (accessed s .status) ≡ true → newMemory (executed s) (s .memory) ≡ s .memory
+unfolding accessed access accessStatus newMemory store
+quiet-memory s h = go (stores (executed s .instruction)) (inside (s .memory) (accessAddress (executed s))) refl refl
+  where
+    go : (b c : Bool) → stores (executed s .instruction) ≡ b → inside (s .memory) (accessAddress (executed s)) ≡ c
+        → newMemory (executed s) (s .memory) ≡ s .memory
+    go false c e f = cc
+    go true false e f = cc
+    go true true e f =
+        let k : isBad (fetched s .status) ≡ true = cc (in-executed s, or-true (loads (executed s .instruction))) in
+        cc (in-executed s, nop-stores (fetched s) (fetched-as s .nop k))
+
+quiet-codes : (s : Plain) → isBad (accessed s .status) ≡ true → newCodes (decoded s) (s .machine .codes) ≡ s .machine .codes
+unfolding accessed access accessStatus newCodes
+quiet-codes s h = go (is operation (decoded s .instruction)) refl
+  where
+    go : (b : Bool) → is operation (decoded s .instruction) ≡ b → newCodes (decoded s) (s .machine .codes) ≡ s .machine .codes
+    go false e = cc
+    go true e =
+        let o : is operation (fetched s) ≡ true = cc (in-decoded s) in
+        let n = sets-loads (fetched s) o in
+        let k : isBad (fetched s .status) ≡ true = cc (in-executed s, n .0, n .1) in
+        cc (nop-sets (fetched s) (fetched-as s .nop k))
+
+-- JUMPS AND RETURNS load no register, and neither is the other
+data Kind (i : Instruction) : Type 0 where
+  jumps : is jump i ≡ true → is ret i ≡ false → loadedTarget i ≡ 15 → Kind i
+  returns : is jump i ≡ false → is ret i ≡ true → loadedTarget i ≡ 15 → Kind i
+  others : is jump i ≡ false → is ret i ≡ false → Kind i
+
+kind : (i : Instruction) → Kind i
+unfolding is loadedTarget register rowOf table
+kind i = go (is jump i) (is ret i) refl refl
+  where
+    go : (a b : Bool) → is jump i ≡ a → is ret i ≡ b → Kind i
+    go true b p q = let k = eqb-true (i .code) 7 p in jumps p (rw k) (rw k)
+    go false true p q = let k = eqb-true (i .code) 9 q in returns p q (rw k)
+    go false false p q = others p q
+
+meets-none : (q : ℕ) → meets 15 q ≡ false
+unfolding meets
+meets-none q = go (ltb q 15) (eqb 15 q) refl refl
+  where
+    go : (a b : Bool) → ltb q 15 ≡ a → eqb 15 q ≡ b → ltb q 15 && eqb 15 q ≡ false
+    go false b e f = cc
+    go true false e f = cc
+    go true true e f = absurd (omega (arith, ltb-true q 15 e, eqb-true 15 q f))
+
+loadUse-none : (g : Settings) (i j : Instruction) → loadedTarget i ≡ 15 → loadUse g i j ≡ false
+unfolding loadUse
+loadUse-none g i j e = cc (meets-none (sourceA j), meets-none (sourceB j))
+
+-- THE RULE: the unconditional jump is guessed to go to C
+guess-always : (r : Rule) (i : Instruction) → eqb (i .function) 0 ≡ true → guess r i ≡ true
+unfolding guess
+guess-always taken i h = refl
+
+beq-same : (a b : Bool) → not (Bool·beq a b) ≡ false → a ≡ b
+beq-same true true h = refl
+beq-same true false h = cc
+beq-same false true h = cc
+beq-same false false h = refl
+
+-- the instruction performed at s is a jump that is guessed wrongly
+unfoldable pub wrongAt : Settings → Plain → Bool
+wrongAt g s = mispredicted g (executed s .instruction) (executed s .holds)
+
+-- THE PLAIN STEP, where it is not stopped
+module _ (s : Plain) (r : isStopped s ≡ false) where
+  step-by : (b : Bool) → isBad (accessed s .status) ≡ b → step s ≡ cond b (stoppedBy s (accessed s .status)) (performed s)
+  unfolding step
+  step-by b e = cc
+
+  pub step-stops : isStopped (step s) ≡ isBad (accessed s .status)
+  unfolding isStopped stoppedBy performed isBad
+  step-stops = go (isBad (accessed s .status)) refl
+    where
+      go : (b : Bool) → isBad (accessed s .status) ≡ b → isStopped (step s) ≡ isBad (accessed s .status)
+      go true e = cc (step-by true e)
+      go false e = cc (step-by false e)
+
+  pub step-memory : step s .memory ≡ newMemory (executed s) (s .memory)
+  unfolding stoppedBy performed
+  step-memory = go (isBad (accessed s .status)) refl
+    where
+      go : (b : Bool) → isBad (accessed s .status) ≡ b → step s .memory ≡ newMemory (executed s) (s .memory)
+      go true e = ap (λ x. x .memory) (step-by true e) ∙ sym (quiet-memory s e)
+      go false e = ap (λ x. x .memory) (step-by false e)
+
+  pub step-codes : step s .machine .codes ≡ newCodes (decoded s) (s .machine .codes)
+  unfolding stoppedBy performed
+  step-codes = go (isBad (accessed s .status)) refl
+    where
+      go : (b : Bool) → isBad (accessed s .status) ≡ b → step s .machine .codes ≡ newCodes (decoded s) (s .machine .codes)
+      go true e = ap (λ x. x .machine .codes) (step-by true e) ∙ sym (quiet-codes s e)
+      go false e = ap (λ x. x .machine .codes) (step-by false e)
+
+  -- what a stopping instruction counts and logs, any other counts and logs too
+  pub record Logs : Type 0 where
+    pub log : step s .log ≡ s .log ++ s .machine .address ∷ []
+    pub last : step s .machine .last ≡ s .machine .address
+    pub count : step s .machine .count ≡ s .machine .count + 1
+
+  pub step-logs : Logs
+  unfolding stoppedBy performed
+  step-logs = go (isBad (accessed s .status)) refl
+    where
+      go : (b : Bool) → isBad (accessed s .status) ≡ b → Logs
+      go true e =
+          let k = step-by true e in
+          record { log = ap (λ x. x .log) k; last = ap (λ x. x .machine .last) k; count = ap (λ x. x .machine .count) k }
+      go false e =
+          let k = step-by false e in
+          record { log = ap (λ x. x .log) k; last = ap (λ x. x .machine .last) k; count = ap (λ x. x .machine .count) k }
+
+  pub step-stopped : isBad (accessed s .status) ≡ true → step s ≡ stoppedBy s (accessed s .status)
+  step-stopped e = step-by true e
+
+  module _ (r′ : isStopped (step s) ≡ false) where
+    goes : step s ≡ performed s
+    goes = step-by false (sym step-stops ∙ r′)
+
+    pub step-registers : step s .machine .registers ≡ newRegisters (accessed s) (s .machine .registers)
+    unfolding performed
+    step-registers = ap (λ x. x .machine .registers) goes
+
+    address-next : step s .machine .address
+        ≡ cond (is ret (fetched s)) (accessed s .word) (cond (is jump (fetched s)) (turned (executed s .instruction) (executed s .holds)) (straight (executed s .instruction)))
+    unfolding performed accessed access executed execute decoded decode nextAddress
+    address-next = ap (λ x. x .machine .address) goes
+
+    pub address-returned : is ret (fetched s) ≡ true → step s .machine .address ≡ accessed s .word
+    address-returned t = cc address-next
+
+    module _ (g : Settings) where
+      pub address-predicted : wrongAt g s ≡ false → is ret (fetched s) ≡ false → step s .machine .address ≡ predictedNext g (fetched s)
+      unfolding wrongAt mispredicted predictedNext
+      address-predicted m t = go (is jump (fetched s)) refl
+        where
+          go : (b : Bool) → is jump (fetched s) ≡ b → step s .machine .address ≡ predictedNext g (fetched s)
+          go false e = cc (address-next, in-executed s)
+          go true e =
+              let k : not (Bool·beq (executed s .holds) (guess (g .rule) (fetched s))) ≡ false = cc (in-executed s) in
+              cc (address-next, in-executed s, beq-same (executed s .holds) (guess (g .rule) (fetched s)) k)
+
+      pub address-mended : wrongAt g s ≡ true → step s .machine .address ≡ turned (executed s .instruction) (executed s .holds)
+      unfolding wrongAt mispredicted
+      address-mended m = go (kind (fetched s))
+        where
+          go : Kind (fetched s) → step s .machine .address ≡ turned (executed s .instruction) (executed s .holds)
+          go (jumps a b d) = cc address-next
+          go (returns a b d) = cc (in-executed s)
+          go (others a b) = cc (in-executed s)
+
+pub step-still : (s : Plain) → isStopped s ≡ true → step s ≡ s
+unfolding step
+step-still s h = cc
+
+pub stopped-before : (s : Plain) → isStopped (step s) ≡ false → isStopped s ≡ false
+unfolding step
+stopped-before s h = go (isStopped s) refl
+  where
+    go : (b : Bool) → isStopped s ≡ b → isStopped s ≡ false
+    go true e = cc
+    go false e = e
+
+-- REGISTERS
+value-written : (r : Registers) (t v q : ℕ) → length r ≡ 15 → value (written r t v) q ≡ cond (meets t q) v (value r q)
+unfolding value written meets
+value-written r t v q l = go (ltb q 15) (ltb t 15) (eqb t q) refl refl refl
+  where
+    go : (a b c : Bool) → ltb q 15 ≡ a → ltb t 15 ≡ b → eqb t q ≡ c → value (written r t v) q ≡ cond (meets t q) v (value r q)
+    go false b c e f g = cc
+    go true false false e f g = cc
+    go true false true e f g = cc (eqb-true t q g)
+    go true true false e f g = cc (getD-set-other r t q v 0 (λ x. eqb-false t q g (sym x)))
+    go true true true e f g = cc (getD-set-same r t v 0 (omega (arith, ltb-true t 15 f)), eqb-true t q g)
+
+length-written : (r : Registers) (t v : ℕ) → length (written r t v) ≡ length r
+unfolding written
+length-written r t v = go (ltb t 15)
+  where
+    go : (b : Bool) → length (cond b (set r t v) r) ≡ length r
+    go true = length-set r t v
+    go false = refl
+
+-- a register after an instruction is what lies behind it, forwarded past its word and its result
+pub value-after : (w : Accessed) (r : Registers) → length r ≡ 15 → (q : ℕ) → value (newRegisters w r) q ≡ pastBoth (inW w) q (value r q)
+unfolding newRegisters pastBoth
+value-after w r l q =
+    value-written (written r (resultTarget (w .instruction) (w .holds)) (w .result)) (loadedTarget (w .instruction)) (w .word) q (length-written _ _ _ ∙ l)
+    ∙ ap (λ x. cond (meets (loadedTarget (w .instruction)) q) (w .word) x) (value-written r (resultTarget (w .instruction) (w .holds)) (w .result) q l)
+
+length-step : (s : Plain) → length (step s .machine .registers) ≡ length (s .machine .registers)
+unfolding step performed stoppedBy newRegisters
+length-step s = go (isStopped s) (isBad (accessed s .status))
+  where
+    go : (b c : Bool) → length (cond b s (cond c (stoppedBy s (accessed s .status)) (performed s)) .machine .registers) ≡ length (s .machine .registers)
+    go true c = refl
+    go false true = refl
+    go false false = length-written _ _ _ ∙ length-written _ _ _
+
+pub length-steps : (s : Plain) → length (s .machine .registers) ≡ 15 → (n : ℕ) → length (steps s n .machine .registers) ≡ 15
+unfolding steps
+length-steps s h zero = h
+length-steps s h (suc n) = length-step (steps s n) ∙ length-steps s h n
+
+-- where no word is loaded, past the result is past both
+pub past-unloaded : (s : Plain) (q v : ℕ) → meets (loadedTarget (decoded s .instruction)) q ≡ false → pastBoth (inW (accessed s)) q v ≡ pastResult (inM (executed s)) q v
+unfolding pastBoth pastResult accessed access executed execute
+past-unloaded s q v h = cc
+
+-- CHARGES
+-- behind an instruction as it retired: a jump guessed wrongly is charged 2, for it has a condition; a return 3; behind any other one waits for a load
+module _ (g : Settings) (k : Retired) where
+  pub wrong-stays : mispredicted g (k .instruction) (k .holds) ≡ true → is ret (k .instruction) ≡ false
+  unfolding mispredicted
+  wrong-stays m = go (kind (k .instruction))
+    where
+      go : Kind (k .instruction) → is ret (k .instruction) ≡ false
+      go (jumps a b d) = b
+      go (returns a b d) = cc
+      go (others a b) = b
+
+  module _ (j : Instruction) where
+    pub behind-wrong : mispredicted g (k .instruction) (k .holds) ≡ true → eqb (k .instruction .function) 0 ≡ false → amount (reasonBehind g k j) ≡ 2
+    unfolding mispredicted reasonBehind amount
+    behind-wrong m f = go (kind (k .instruction))
+      where
+        go : Kind (k .instruction) → amount (reasonBehind g k j) ≡ 2
+        go (jumps a b d) = cc (loadUse-none g (k .instruction) j d)
+        go (returns a b d) = cc
+        go (others a b) = cc
+
+    pub behind-return : is ret (k .instruction) ≡ true → amount (reasonBehind g k j) ≡ 3
+    unfolding mispredicted reasonBehind amount
+    behind-return m = go (kind (k .instruction))
+      where
+        go : Kind (k .instruction) → amount (reasonBehind g k j) ≡ 3
+        go (jumps a b d) = cc
+        go (returns a b d) = cc (loadUse-none g (k .instruction) j d)
+        go (others a b) = cc
+
+    pub behind-other : mispredicted g (k .instruction) (k .holds) ≡ false → is ret (k .instruction) ≡ false → amount (reasonBehind g k j) ≡ bit (loadUse g (k .instruction) j)
+    unfolding reasonBehind amount bit
+    behind-other m t = go (loadUse g (k .instruction) j) refl
+      where
+        go : (b : Bool) → loadUse g (k .instruction) j ≡ b → amount (reasonBehind g k j) ≡ bit (loadUse g (k .instruction) j)
+        go true e = cc
+        go false e = cc
+
+-- an unconditional jump is never guessed wrongly
+module _ (g : Settings) (x : Decoded) (c : Codes) where
+  always-holds : is jump (x .instruction) ≡ true → eqb (x .instruction .function) 0 ≡ true → execute x c .holds ≡ true
+  unfolding execute outcome condition
+  always-holds f e =
+      let k = eqb-true (x .instruction .function) 0 e in
+      cc (or-true (is cmov (x .instruction)))
+
+  pub conditional : mispredicted g (x .instruction) (execute x c .holds) ≡ true → eqb (x .instruction .function) 0 ≡ false
+  unfolding mispredicted
+  conditional m = go (eqb (x .instruction .function) 0) (is jump (x .instruction)) refl refl
+    where
+      go : (b j : Bool) → eqb (x .instruction .function) 0 ≡ b → is jump (x .instruction) ≡ j → eqb (x .instruction .function) 0 ≡ false
+      go false j e f = e
+      go true false e f = absurd (true≢false (sym m ∙ cc))
+      go true true e f = absurd (true≢false (sym m ∙ cc (always-holds f e, guess-always (g .rule) (x .instruction) e)))
+
+-- the same of the plain history: the instruction after n others is charged by its predecessor
+module _ (g : Settings) (s : Plain) (n : ℕ) where
+  pub due-next : due g s (suc (suc n)) ≡ due g s (suc n) + 1 + charge g s (suc (suc n))
+  unfolding due charges
+  due-next = omega arith
+
+  predecessor : Retired
+  predecessor = retiredOf (accessed (steps s n))
+
+  charged : charge g s (suc (suc n)) ≡ amount (reasonBehind g predecessor (fetched (steps s (suc n))))
+  unfolding charge reasonOf predecessor
+  charged = refl
+
+  wrong-is : mispredicted g (predecessor .instruction) (predecessor .holds) ≡ wrongAt g (steps s n)
+  unfolding predecessor retiredOf wrongAt accessed access
+  wrong-is = refl
+
+  ret-is : is ret (predecessor .instruction) ≡ is ret (fetched (steps s n))
+  unfolding predecessor retiredOf
+  ret-is = ap (is ret) (in-accessed (steps s n))
+
+  pub charge-wrong : wrongAt g (steps s n) ≡ true → (is ret (fetched (steps s n)) ≡ false) × (charge g s (suc (suc n)) ≡ 2)
+  unfolding predecessor retiredOf wrongAt accessed access executed execute decoded
+  charge-wrong m = (
+    sym ret-is ∙ wrong-stays g predecessor m,
+    charged ∙ behind-wrong g predecessor (fetched (steps s (suc n))) m (conditional g (decoded (steps s n)) (steps s n .machine .codes) m),
+  )
+
+  pub charge-returned : is ret (fetched (steps s n)) ≡ true → charge g s (suc (suc n)) ≡ 3
+  charge-returned m = charged ∙ behind-return g predecessor (fetched (steps s (suc n))) (ret-is ∙ m)
+
+  pub charge-straight : wrongAt g (steps s n) ≡ false → is ret (fetched (steps s n)) ≡ false
+      → charge g s (suc (suc n)) ≡ bit (loadUse g (fetched (steps s n)) (fetched (steps s (suc n))))
+  unfolding predecessor retiredOf
+  charge-straight m t =
+      charged ∙ (behind-other g predecessor (fetched (steps s (suc n))) (wrong-is ∙ m) (ret-is ∙ t)
+      ∙ ap (λ (i : Instruction). bit (loadUse g i (fetched (steps s (suc n))))) (in-accessed (steps s n)))

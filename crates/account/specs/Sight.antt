@@ -1,0 +1,149 @@
+-- Within the premise a fetch sees the bytes that the plain engine will see, though up to three older stores are still to come.
+use Prim.Native.Nat.{ℕ, zero, suc, _+_, _-_, _≤_, _<_, _%_, _/_, min}
+use mathlib.Core.Bool.{Bool, true, false, cond, _&&_}
+use mathlib.Core.List.{List, [], _∷_}
+use mathlib.Core.Path.{_≡_, refl, ap, sym, _∙_}
+use native.Mathlib.Omega.{arith}
+use native.Mathlib.Decide.{decLt}
+use borrow.Author.Tests.{ltb-true, ltb-false, lt-ltb, le-leb}
+use lib.Dec.{ltb, leb}
+use lib.ListN.{length, getD, set, take, drop, length-set, length-take, length-drop, List·getD-eq-default}
+use lib.Seq.{getD-set-other, ext-getD, getD-take, getD-drop}
+use Rattle.account.specs.Names.{Executed}
+use Rattle.machine.specs.Words.{placed}
+use Rattle.machine.specs.Memory.{Memory, inside, store}
+use Rattle.machine.specs.Table.{Row, table, rowOf, noRow}
+use Rattle.machine.specs.Fetch.{fetch, parsed, ownBytes, sizeAt}
+use Rattle.machine.specs.Stages.{decode, execute, stores, accessAddress, storedWord, newMemory}
+use Rattle.machine.specs.Plain.{Plain, isStopped, fetched, decoded, executed, step, steps}
+use Rattle.machine.specs.Prediction.{Settings}
+use Rattle.machine.specs.Premise.{Untouched, writesByte, hasByte}
+use Rattle.account.specs.Laws.{step-memory, stopped-before}
+use Rattle.account.specs.Relation.{Known}
+
+-- WHAT A STORE LEAVES
+length-placed : (k : ℕ) (m : Memory) (a v : ℕ) → length (placed k m a v) ≡ length m
+unfolding placed
+length-placed zero m a v = refl
+length-placed (suc k) m a v = length-placed k (set m a (v % 256)) (a + 1) (v / 256) ∙ length-set m a (v % 256)
+
+getD-placed : (k : ℕ) (m : Memory) (a v x : ℕ) → (a ≤ x → a + k ≤ x) → getD (placed k m a v) x 0 ≡ getD m x 0
+unfolding placed
+getD-placed zero m a v x h = refl
+getD-placed (suc k) m a v x h =
+    getD-placed k (set m a (v % 256)) (a + 1) (v / 256) x (λ q. let z : a + suc k ≤ x = h (omega arith) in omega arith)
+    ∙ getD-set-other m a x (v % 256) 0 (λ e. let z : a + suc k ≤ x = h (omega arith) in omega arith)
+
+length-newMemory : (x : Executed) (m : Memory) → length (newMemory x m) ≡ length m
+unfolding newMemory store
+length-newMemory x m = go (stores (x .instruction)) (inside m (accessAddress x))
+  where
+    go : (b c : Bool) → length (cond b (cond c (placed 8 m (accessAddress x) (storedWord x)) m) m) ≡ length m
+    go false c = refl
+    go true false = refl
+    go true true = length-placed 8 m (accessAddress x) (storedWord x)
+
+getD-newMemory : (x : Executed) (m : Memory) (a : ℕ)
+    → (stores (x .instruction) && (inside m (accessAddress x) && (leb (accessAddress x) a && ltb a (accessAddress x + 8))) ≡ true → ⊥)
+    → getD (newMemory x m) a 0 ≡ getD m a 0
+unfolding newMemory store
+getD-newMemory x m a h = go (stores (x .instruction)) (inside m (accessAddress x)) h
+  where
+    go : (b c : Bool) → (b && (c && (leb (accessAddress x) a && ltb a (accessAddress x + 8))) ≡ true → ⊥)
+        → getD (cond b (cond c (placed 8 m (accessAddress x) (storedWord x)) m) m) a 0 ≡ getD m a 0
+    go false c h = refl
+    go true false h = refl
+    go true true h = getD-placed 8 m (accessAddress x) (storedWord x) a away
+      where
+        away : accessAddress x ≤ a → accessAddress x + 8 ≤ a
+        away q = ltb-false a (accessAddress x + 8) (falsely (ltb a (accessAddress x + 8)) (λ e. h (cc (e, le-leb (accessAddress x) a q))))
+          where
+            falsely : (b : Bool) → (b ≡ true → ⊥) → b ≡ false
+            falsely true k = absurd (k refl)
+            falsely false k = refl
+
+-- TWO MEMORIES that agree on an instruction's bytes
+record Same (m m′ : Memory) (a : ℕ) : Type 0 where
+  long : length m ≡ length m′
+  at : (x : ℕ) → a ≤ x → x < a + sizeAt m′ a → x < length m′ → getD m x 0 ≡ getD m′ x 0
+
+-- the table's rule, computed once: no instruction is without a byte
+sized : List Row → Bool
+sized [] = true
+sized (x ∷ l) = ltb 0 (x .size) && sized l
+
+pub both : (a b : Bool) → a && b ≡ true → (a ≡ true) × (b ≡ true)
+both true b h = (refl, h)
+both false b h = (h, cc)
+
+sized-at : (l : List Row) (k : ℕ) → sized l ≡ true → 0 < getD l k noRow .size
+unfolding sized
+sized-at [] k h = omega arith
+sized-at (x ∷ l) zero h = ltb-true 0 (x .size) (both (ltb 0 (x .size)) (sized l) h .0)
+sized-at (x ∷ l) (suc k) h = sized-at l k (both (ltb 0 (x .size)) (sized l) h .1)
+
+pub size-positive : (m : Memory) (a : ℕ) → 0 < sizeAt m a
+unfolding sizeAt rowOf table sized
+size-positive m a = sized-at table (getD m a 0 / 16) refl
+
+same-size : (m m′ : Memory) (a : ℕ) → Same m m′ a → sizeAt m a ≡ sizeAt m′ a
+unfolding sizeAt
+same-size m m′ a h = ap (λ (b : ℕ). rowOf (b / 16) .size) (go (decLt a (length m′)))
+  where
+    go : Dec (a < length m′) → getD m a 0 ≡ getD m′ a 0
+    go (yes q) = h .at a (omega arith) (omega (arith, size-positive m′ a)) q
+    go (no q) = List·getD-eq-default m 0 (omega (arith, h .long)) ∙ sym (List·getD-eq-default m′ 0 (omega arith))
+
+same-bytes : (m m′ : Memory) (a : ℕ) → Same m m′ a → ownBytes m a ≡ ownBytes m′ a
+unfolding ownBytes
+same-bytes m m′ a h = ap (λ (n : ℕ). take n (drop a m)) (same-size m m′ a h) ∙ ext-getD 0 _ _ lengths each
+  where
+    lengths : length (take (sizeAt m′ a) (drop a m)) ≡ length (take (sizeAt m′ a) (drop a m′))
+    lengths = simp (length-take, length-drop) (ap (λ (n : ℕ). min (sizeAt m′ a) (n - a)) (h .long))
+
+    each : (i : ℕ) → i < length (take (sizeAt m′ a) (drop a m)) → getD (take (sizeAt m′ a) (drop a m)) i 0 ≡ getD (take (sizeAt m′ a) (drop a m′)) i 0
+    each i q =
+        let z : i < min (sizeAt m′ a) (length m - a) = simp (length-take, length-drop) at q in
+        let e = h .long in
+        getD-take (sizeAt m′ a) (drop a m) i 0 (omega arith)
+        ∙ (getD-drop a m i 0 ∙ (h .at (a + i) (omega arith) (omega arith) (omega arith) ∙ sym (getD-take (sizeAt m′ a) (drop a m′) i 0 (omega arith) ∙ getD-drop a m′ i 0)))
+
+same-fetch : (m m′ : Memory) (a : ℕ) → Same m m′ a → fetch m a ≡ fetch m′ a
+unfolding fetch
+same-fetch m m′ a h = ap (parsed a) (same-bytes m m′ a h)
+
+-- one instruction further back, which writes none of the bytes
+same-back : (s : Plain) (m′ : Memory) (a : ℕ) → isStopped s ≡ false → Same (step s .memory) m′ a
+    → ((x : ℕ) → writesByte s x ≡ true → a ≤ x → x < a + sizeAt m′ a → x < length m′ → ⊥) → Same (s .memory) m′ a
+unfolding writesByte executed execute decoded decode
+same-back s m′ a r h k =
+    record {
+      long = sym (ap length (step-memory s r) ∙ length-newMemory (executed s) (s .memory)) ∙ h .long;
+      at = λ x lo hi q. sym (unwritten x (λ e. k x e lo hi q)) ∙ h .at x lo hi q;
+    }
+  where
+    unwritten : (x : ℕ) → (writesByte s x ≡ true → ⊥) → getD (step s .memory) x 0 ≡ getD (s .memory) x 0
+    unwritten x f =
+        ap (λ (m : Memory). getD m x 0) (step-memory s r)
+        ∙ getD-newMemory (executed s) (s .memory) x f
+
+pub runs-before : (s : Plain) (d j n : ℕ) → d + j ≡ n → isStopped (steps s n) ≡ false → isStopped (steps s j) ≡ false
+unfolding steps
+runs-before s zero j n e h =
+    let q : j ≡ n = omega arith in
+    rw q h
+runs-before s (suc d) j n e h = stopped-before (steps s j) (runs-before s d (suc j) n (omega arith) h)
+
+module _ (g : Settings) (s : Plain) (K : ℕ) (u : Untouched s K) where
+  back : (d j n : ℕ) → d + j ≡ n → d ≤ 3 → Known g s K n → Same (steps s j .memory) (steps s n .memory) (steps s n .machine .address)
+  unfolding steps hasByte
+  back zero j n e b l =
+      let q : j ≡ n = omega arith in
+      rw q (record { long = refl; at = λ x _ _ _. refl })
+  back (suc d) j n e b l =
+      same-back (steps s j) (steps s n .memory) (steps s n .machine .address) (runs-before s (suc d) j n e (l .runs)) (back d (suc j) n (omega arith) (omega arith) l)
+      (λ x st lo hi q. u j n (omega arith) (omega arith) (l .below) (l .runs) x st (cc (le-leb _ _ lo, lt-ltb _ _ hi, lt-ltb _ _ q)))
+
+  pub sight : (j n : ℕ) → j ≤ n → n ≤ j + 3 → Known g s K n → fetch (steps s j .memory) (steps s n .machine .address) ≡ fetched (steps s n)
+  unfolding fetched
+  sight j n a b l = same-fetch (steps s j .memory) (steps s n .memory) (steps s n .machine .address) (back (n - j) j n (omega arith) (omega arith) l)

@@ -1,0 +1,62 @@
+-- Demand 3, as it is proved.
+use Prim.Native.Nat.{ℕ, suc, _≤_, _<_}
+use mathlib.Core.Bool.{true, false}
+use mathlib.Core.Path.{_≡_}
+use lib.ListN.{length}
+use Rattle.account.specs.Names.{Codes}
+use Rattle.machine.specs.Types.{isBad}
+use Rattle.machine.specs.Memory.{Memory, Registers}
+use Rattle.machine.specs.Plain.{Plain, plainOf, plainStart, isStopped, steps}
+use Rattle.machine.specs.Prediction.{Settings}
+use Rattle.machine.specs.Charges.{kindsOf, due, dueCycles}
+use Rattle.machine.specs.Pipeline.{Piped, pipedOf, pipeStart, clocks}
+use Rattle.machine.specs.Premise.{Untouched}
+
+-- what both engines are started from
+pub record Start : Type 0 where
+  pub registers : Registers
+  pub codes : Codes
+  pub address : ℕ
+  pub memory : Memory
+
+unfoldable pub plainFrom : Start → Plain
+plainFrom t = plainOf (plainStart (t .registers) (t .codes) (t .address)) (t .memory)
+
+unfoldable pub pipedFrom : Start → Piped
+pipedFrom t = pipedOf (pipeStart (t .registers) (t .codes) (t .address)) (t .memory)
+
+-- Of the plain history from s exactly n instructions are due by cycle c. Instruction k + 1 is performed on steps s k, and due in cycle
+-- due g s (k + 1), "k + 4 plus the charges of instructions 1 to k" with k counted from 1.
+pub record DueBy (g : Settings) (s : Plain) (c n : ℕ) : Type 0 where
+  -- the plain engine performs the n: none comes after a stop
+  pub performed : (k : ℕ) → k < n → isStopped (steps s k) ≡ false
+  pub arrived : (k : ℕ) → k < n → due g s (suc k) ≤ c
+  -- and the next, unless there is none, is not due yet
+  pub awaited : isStopped (steps s n) ≡ false → c < due g s (suc n)
+
+-- What holds of the pipeline p after c clocks, when n instructions have retired, beside the plain history from s.
+pub record Agrees (g : Settings) (s : Plain) (p : Piped) (c n : ℕ) : Type 0 where
+  -- exactly the instructions that are due have retired
+  pub retired : p .pipeline .retired ≡ n
+  pub exactly : DueBy g s c n
+  -- in the plain engine's order, the k-th in the cycle in which it is due
+  pub addresses : p .addresses ≡ steps s n .log
+  pub cycles : p .cycles ≡ dueCycles g s n
+  -- "The cycle counts kept by kind sum the charges of the instructions that the pipeline retired"
+  pub kinds : p .pipeline .kinds ≡ kindsOf g s n
+  -- registers, status and last address are the plain engine's after as many instructions
+  pub registers : p .pipeline .registers ≡ steps s n .machine .registers
+  pub status : p .pipeline .status ≡ steps s n .machine .status
+  pub last : p .pipeline .last ≡ steps s n .machine .last
+  -- while it runs every clock is counted
+  pub running : isBad (p .pipeline .status) ≡ false → p .pipeline .cycles ≡ c
+  -- at a stop memory and codes are the plain engine's too, and the cycles counted are those up to the stopping instruction
+  pub stopped : isBad (p .pipeline .status) ≡ true
+      → (p .memory ≡ steps s n .memory) × (p .pipeline .codes ≡ steps s n .machine .codes) × (p .pipeline .cycles ≡ due g s n)
+
+-- "Start both alike." From every start, where among the first k + 1 instructions "no store writes a byte of any of the next three
+-- instructions the plain engine performs", the pipeline agrees after every clock up to the cycle in which instruction k + 1 is due.
+abbrev pub Demand3 : Type 0
+Demand3 =
+    (g : Settings) (t : Start) → length (t .registers) ≡ 15 → (k : ℕ) → Untouched (plainFrom t) (suc k)
+    → (c : ℕ) → c ≤ due g (plainFrom t) (suc k) → (n : ℕ) × Agrees g (plainFrom t) (clocks g (pipedFrom t) c) c n

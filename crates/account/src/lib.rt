@@ -1,0 +1,1 @@
+// Demand 3, proved of the definitions: theorems only, in specs/.
