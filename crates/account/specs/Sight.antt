@@ -1,20 +1,20 @@
 -- Within the premise a fetch sees the bytes that the plain engine will see, though up to three older stores are still to come.
 use Prim.Native.Nat.{ℕ, zero, suc, _+_, _-_, _≤_, _<_, _%_, _/_, min}
 use mathlib.Core.Bool.{Bool, true, false, cond, _&&_}
-use mathlib.Core.List.{List, [], _∷_}
 use mathlib.Core.Path.{_≡_, refl, ap, sym, _∙_}
 use native.Mathlib.Omega.{arith}
 use native.Mathlib.Decide.{decLt}
-use borrow.Author.Tests.{ltb-true, ltb-false, lt-ltb, le-leb}
+use borrow.Author.Tests.{ltb-false, lt-ltb, le-leb}
 use lib.Dec.{ltb, leb}
 use lib.ListN.{length, getD, set, take, drop, length-set, length-take, length-drop, List·getD-eq-default}
 use lib.Seq.{getD-set-other, ext-getD, getD-take, getD-drop}
 use Rattle.account.specs.Names.{Executed}
 use Rattle.machine.specs.Words.{placed}
 use Rattle.machine.specs.Memory.{Memory, inside, store}
-use Rattle.machine.specs.Table.{Row, table, rowOf, noRow}
+use Rattle.machine.specs.Table.{rowOf}
 use Rattle.machine.specs.Fetch.{fetch, parsed, ownBytes, sizeAt}
 use Rattle.machine.specs.Stages.{decode, execute, stores, accessAddress, storedWord, newMemory}
+use Rattle.columns.specs.Lengths.{length-rule, parts}
 use Rattle.machine.specs.Plain.{Plain, isStopped, fetched, decoded, executed, step, steps}
 use Rattle.machine.specs.Prediction.{Settings}
 use Rattle.machine.specs.Premise.{Untouched, writesByte, hasByte}
@@ -67,24 +67,14 @@ record Same (m m′ : Memory) (a : ℕ) : Type 0 where
   long : length m ≡ length m′
   at : (x : ℕ) → a ≤ x → x < a + sizeAt m′ a → x < length m′ → getD m x 0 ≡ getD m′ x 0
 
--- the table's rule, computed once: no instruction is without a byte
-sized : List Row → Bool
-sized [] = true
-sized (x ∷ l) = ltb 0 (x .size) && sized l
-
 pub both : (a b : Bool) → a && b ≡ true → (a ≡ true) × (b ≡ true)
 both true b h = (refl, h)
 both false b h = (h, cc)
 
-sized-at : (l : List Row) (k : ℕ) → sized l ≡ true → 0 < getD l k noRow .size
-unfolding sized
-sized-at [] k h = omega arith
-sized-at (x ∷ l) zero h = ltb-true 0 (x .size) (both (ltb 0 (x .size)) (sized l) h .0)
-sized-at (x ∷ l) (suc k) h = sized-at l k (both (ltb 0 (x .size)) (sized l) h .1)
-
+-- by the length rule no instruction is without a byte
 pub size-positive : (m : Memory) (a : ℕ) → 0 < sizeAt m a
-unfolding sizeAt rowOf table sized
-size-positive m a = sized-at table (getD m a 0 / 16) refl
+unfolding sizeAt parts
+size-positive m a = omega (arith, length-rule (getD m a 0 / 16))
 
 same-size : (m m′ : Memory) (a : ℕ) → Same m m′ a → sizeAt m a ≡ sizeAt m′ a
 unfolding sizeAt

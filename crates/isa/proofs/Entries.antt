@@ -9,7 +9,7 @@ use Rattle.machine.specs.declared.Instruction.{Instruction}
 use Rattle.machine.specs.declared.Decoded.{Decoded}
 use Rattle.machine.specs.declared.Executed.{Executed}
 use Rattle.machine.specs.Table.{Row, noRow, table, rowOf, RegisterByte, noByte, bothNamed, onlyB, onlyA, Which, none, rA, rB, rsp, Computes, nothing, bOpA, justA, justC, bPlusC, bLess8, bPlus8, Accesses, noAccess, loadsAtE, loadsAtA, storesA, storesNext}
-use Rattle.machine.specs.Fetch.{halvesFit, half}
+use Rattle.machine.specs.Fetch.{halvesFit}
 use Rattle.machine.specs.Stages.{register, computed, loading, storing, addressed, stored}
 use Rattle.isa.specs.Numbers.{byteNumber, whichNumber, computesNumber, accessesNumber, halvesFitBy, registerBy, computedBy}
 
@@ -24,13 +24,6 @@ fits-by noByte a b = refl
 fits-by bothNamed a b = refl
 fits-by onlyB a b = refl
 fits-by onlyA a b = refl
-
-pub half-by : (y : RegisterByte) (x : ℕ) → cond (eqb (byteNumber y) 0) 15 x ≡ half y x
-unfolding byteNumber half
-half-by noByte x = refl
-half-by bothNamed x = refl
-half-by onlyB x = refl
-half-by onlyA x = refl
 
 pub register-by : (w : Which) (i : Instruction) → registerBy (whichNumber w) i ≡ register w i
 unfolding registerBy whichNumber register

@@ -1,6 +1,6 @@
 use mathlib.Core.Path.{_∙_}
 use native.Mathlib.Omega.{arith}
-use Rattle.isa.proofs.Parse.{outside, no-function, cut-short, misnamed, halts, fetches, two}
+use Rattle.isa.proofs.Parse.{outside, no-function, cut-short, misnamed, halts, fetches, second}
 use borrow.Author.Needs.{needs}
 use Rattle.isa.proofs.fetching.fetch.Statement.{statement}
 use Rattle.isa.proofs.fetching.fetch.Tie as tie
@@ -42,7 +42,7 @@ byte-of-requires : tie.Need-byte-of-requires
 byte-of-requires c κs = search needs
 
 register-byte-requires : tie.Need-register-byte-requires
-register-byte-requires c κs = λ h. omega (arith, two _ (λ e. h (c .byte-of .ensures ∙ e)))
+register-byte-requires c κs = λ h. omega (arith, second _ (λ e. h (c .byte-of .ensures ∙ e)))
 
 halves-fit-requires : tie.Need-halves-fit-requires
 halves-fit-requires c κs = search needs
