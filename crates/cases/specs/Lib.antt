@@ -1,5 +1,9 @@
--- Document 01's marked cases and the two listings.
+-- Document 01's marked cases and the two listings; the promises of the open operations, that each allows one answer only, and that the
+-- wrong replays fall foul of them.
 pub mod Names
 pub mod Asked
 pub mod Table
 pub mod Bounds
+pub mod Promises
+pub mod Single
+pub mod Wrong

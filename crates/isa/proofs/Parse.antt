@@ -9,7 +9,7 @@ use lib.ListN.{length, getD}
 use Rattle.machine.specs.declared.Status.the-variants.{Aok as aok, Hlt as hlt, Adr as adr, Ins as ins}
 use Rattle.machine.specs.declared.Instruction.{Instruction}
 use Rattle.machine.specs.Words.{sum, number}
-use Rattle.machine.specs.Memory.{Memory}
+use Rattle.machine.specs.Memory.{Memory, inside, load}
 use Rattle.machine.specs.Table.{rowOf, RegisterByte, noByte, bothNamed, onlyB, onlyA}
 use Rattle.machine.specs.Fetch.{stopping, halvesFit, half, checked, fetch}
 use Rattle.columns.specs.Lengths.{hasByte, length-rule, two}
@@ -93,3 +93,11 @@ module _ (m : Memory) (a f : ℕ) (h : a < length m) (ef : f ≡ rowOf (codeAt m
           → record { address = a; status = aok; code = codeAt m a; function = getD m a 0 % 16; ra = b / 16; rb = b % 16; constant = c; next = n } ≡ fetch m a
       unfolding checked aokAt
       fetches c n k o ec en = cc (through, ne-eqb (codeAt m a) 0 o, high-is, low-is)
+
+-- THE CONSTANT, loaded from inside an instruction that is whole
+pub constant-there : (m : Memory) (at size c : ℕ) → at + size ≤ length m → 8 < size → c ≡ load m (at + (size - 8)) → c ≡ cond (ltb 8 size) (number 8 m (at + (size - 8))) 0
+unfolding load inside
+constant-there m at size c fits long e = cc (lt-ltb 8 size long, lt-ltb (at + (size - 8) + 7) (length m) (omega arith))
+
+pub no-constant : (m : Memory) (at size : ℕ) → size ≤ 8 → 0 ≡ cond (ltb 8 size) (number 8 m (at + (size - 8))) 0
+no-constant m at size short = cc (le-ltb 8 size short)

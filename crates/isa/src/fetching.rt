@@ -58,7 +58,7 @@ fn constant_of(memory: &[u8], at: usize, size: u8) -> u64
     ensures { λ r. ⌜ r ≡ cond (ltb 8 size) (number 8 (now (memory .entry)) (at + (size - 8))) 0 ⌝ }
 {
     if 8 < size {
-        word::number_at(memory, at + (size - 8) as usize)
+        word::load(memory, (at + (size - 8) as usize) as u64)
     } else {
         0
     }

@@ -1,4 +1,5 @@
--- The cycle account: what an instruction is charged, by its predecessor, and in which cycle it is due. From the plain history alone.
+-- The cycle account: what an instruction is charged, by its predecessor (for the counts that the pipeline keeps too), and in which cycle it is due,
+-- from the plain history alone.
 use Prim.Native.Nat.{ℕ, zero, suc, _+_}
 use mathlib.Core.Bool.{Bool, cond, not, _&&_}
 use mathlib.Core.List.{List, [], _∷_, _++_}
@@ -64,7 +65,7 @@ unfoldable pub kindsOf : Settings → Plain → ℕ → Kinds
 kindsOf g s zero = noKinds
 kindsOf g s (suc k) = counted (kindsOf g s k) (reasonOf g s (suc k))
 
--- "the k-th in cycle k + 4 plus the charges of instructions 1 to k"
+-- demand 3: "the k-th in cycle k + 4 plus the charges of instructions 1 to k"
 unfoldable pub due : Settings → Plain → ℕ → ℕ
 due g s k = k + 4 + charges g s k
 

@@ -6,11 +6,11 @@ use lib.Dec.{ltb}
 use lib.ListN.{length, getD, set}
 use Rattle.machine.specs.Words.{number, placed}
 
--- "Memory is N lent bytes": a list of numbers below 256
+-- "Memory is N lent bytes": the list of their values, each below 256 where bytes are lent
 abbrev pub Memory : Type 0
 Memory = List ℕ
 
--- "Fifteen registers of 64 bits, 0 to 14"
+-- "Fifteen registers of 64 bits, 0 to 14": the list of their values, of the length that the record's array has
 abbrev pub Registers : Type 0
 Registers = List ℕ
 

@@ -21,7 +21,7 @@ hasByte s x =
     let a = s .machine .address in
     leb a x && (ltb x (a + sizeAt (s .memory) a) && ltb x (length (s .memory)))
 
--- "no store writes a byte of any of the next three instructions the plain engine performs", among its first K
+-- demand 3: "no store writes a byte of any of the next three instructions the plain engine performs", among its first K
 abbrev pub Untouched : Plain → ℕ → Type 0
 Untouched s K =
     (j n : ℕ) → j < n → n ≤ j + 3 → n < K → isStopped (steps s n) ≡ false

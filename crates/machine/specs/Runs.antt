@@ -68,7 +68,7 @@ unfoldable pub recordRefused : Pipeline → Bool
 recordRefused k =
     refusedInD (k .d) || (refusedInE (k .e) || (refusedInM (k .m) || (refusedInW (k .w) || (refusedKept (k .kept) || countsRefused k))))
 
--- "Lowest number wins." "Otherwise answer 0."
+-- "Lowest number wins." "Otherwise answer 0." The first that applies, in lists that ascend
 unfoldable pub lowest : List (ℕ × Bool) → ℕ
 lowest [] = 0
 lowest (t ∷ ts) = cond (t .1) (t .0) (lowest ts)

@@ -1,4 +1,5 @@
--- "Lengths are kept as one table of sixteen rows": a row has document 01's columns, and then document 003's stage table for that code.
+-- "Lengths are kept as one table of sixteen rows": a row has document 01's columns, and then document 003's stage table for that code
+-- (halt and nop do nothing there, and cmovXX is its rrmovq under a condition).
 use Prim.Native.Nat.{ℕ}
 use mathlib.Core.Bool.{Bool}
 use mathlib.Core.List.{List, [], _∷_}

@@ -25,7 +25,7 @@ pub fn inside(memory: &[u8], at: u64) -> bool
 }
 
 // The number in the eight bytes from `at` on, taken from the last byte down, as the definition recurses.
-pub fn number_at(memory: &[u8], at: usize) -> u64
+fn number_at(memory: &[u8], at: usize) -> u64
     requires { ⌜ at + 8 ≤ length (now memory) ⌝ }
     ensures { λ r. ⌜ r ≡ number 8 (now (memory .entry)) at ⌝ }
 {

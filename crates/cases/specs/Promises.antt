@@ -1,0 +1,57 @@
+-- The promise of each open operation. "Every open operation's promise fixes its whole answer and all lent bytes and words afterwards,
+-- refusals too."
+use Prim.Native.Nat.{ℕ}
+use mathlib.Core.Path.{_≡_}
+use mathlib.Core.List.{List}
+use Rattle.machine.specs.Memory.{Memory, Registers}
+use Rattle.machine.specs.Prediction.{asIn01}
+use Rattle.machine.specs.Plain.{plainStart}
+use Rattle.machine.specs.Pipeline.{pipeStart}
+use Rattle.machine.specs.Runs.{PlainAnswer, PipeAnswer, plainStep, plainRun, pipeClock, pipeRun, pipeRunUnlogged}
+use Rattle.cases.specs.Names.{Codes, Machine, Pipeline}
+
+-- an open operation: what a caller gives and lends; what it has afterwards, the number, the record and all lent bytes and words; and the
+-- definition that its contract equates with that
+pub record Operation : Type 1 where
+  pub Given : Type 0
+  pub Answer : Type 0
+  pub promised : Given → Answer
+
+-- an answer that meets the promise for this input
+abbrev pub Fits : (o : Operation) → o .Given → o .Answer → Type 0
+Fits o x r = r ≡ o .promised x
+
+-- THE PROMISE, of a function that would stand for the operation: for every input its answer fits
+abbrev pub Promise : (o : Operation) → (o .Given → o .Answer) → Type 0
+Promise o f = (x : o .Given) → Fits o x (f x)
+
+abbrev promising : (G A : Type 0) → (G → A) → Operation
+promising G A f = record { Given = G; Answer = A; promised = f }
+
+-- plain::start: a fresh start of registers, codes and address
+abbrev pub plain-start : Operation
+plain-start = promising (Registers × Codes × ℕ) Machine (λ x. plainStart (x .0) (x .1) (x .2))
+
+-- plain::step: "A step or clock is a run of 1 without logs."
+abbrev pub plain-step : Operation
+plain-step = promising (Machine × Memory) PlainAnswer (λ x. plainStep (x .0) (x .1))
+
+-- plain::run: the record, memory, budget and the log of addresses
+abbrev pub plain-run : Operation
+plain-run = promising (Machine × Memory × ℕ × List ℕ) PlainAnswer (λ x. plainRun (x .0) (x .1) (x .2) (x .3))
+
+-- pipe::start: "At a fresh start F holds the start address and the rest are bubbles."
+abbrev pub pipe-start : Operation
+pipe-start = promising (Registers × Codes × ℕ) Pipeline (λ x. pipeStart (x .0) (x .1) (x .2))
+
+-- pipe::clock: one clock
+abbrev pub pipe-clock : Operation
+pipe-clock = promising (Pipeline × Memory) PipeAnswer (λ x. pipeClock asIn01 (x .0) (x .1))
+
+-- pipe::run: the record, memory, budget and the logs of addresses and of cycles
+abbrev pub pipe-run : Operation
+pipe-run = promising (Pipeline × Memory × ℕ × List ℕ × List ℕ) PipeAnswer (λ x. pipeRun asIn01 (x .0) (x .1) (x .2) (x .3) (x .4))
+
+-- pipe::run_unlogged: a run without logs
+abbrev pub pipe-run-unlogged : Operation
+pipe-run-unlogged = promising (Pipeline × Memory × ℕ) PipeAnswer (λ x. pipeRunUnlogged asIn01 (x .0) (x .1) (x .2))

@@ -1,0 +1,48 @@
+-- One answer only: "Two answers that both fit are proved equal".
+use Prim.Native.Nat.{ℕ}
+use mathlib.Core.Path.{_≡_, refl, sym, _∙_, ap}
+use mathlib.Core.List.{List}
+use Rattle.machine.specs.Memory.{Memory}
+use Rattle.machine.specs.Runs.{plainAnswer, pipeAnswer}
+use Rattle.cases.specs.Names.{Machine, Pipeline}
+use Rattle.cases.specs.Promises.{Operation, Fits, Promise, plain-start, plain-step, plain-run, pipe-start, pipe-clock, pipe-run, pipe-run-unlogged}
+
+-- two answers that both meet the promise for the same input are equal: number, record, all lent bytes and words
+abbrev pub OneAnswer : Operation → Type 0
+OneAnswer o = (x : o .Given) (r s : o .Answer) → Fits o x r → Fits o x s → r ≡ s
+
+one-answer : (o : Operation) → OneAnswer o
+one-answer o x r s a b = a ∙ sym b
+
+-- and there is one: each promise can be met
+pub met : (o : Operation) → Promise o (o .promised)
+met o x = refl
+
+pub one-plain-start : OneAnswer plain-start
+one-plain-start = one-answer plain-start
+
+pub one-plain-step : OneAnswer plain-step
+one-plain-step = one-answer plain-step
+
+pub one-plain-run : OneAnswer plain-run
+one-plain-run = one-answer plain-run
+
+pub one-pipe-start : OneAnswer pipe-start
+one-pipe-start = one-answer pipe-start
+
+pub one-pipe-clock : OneAnswer pipe-clock
+one-pipe-clock = one-answer pipe-clock
+
+pub one-pipe-run : OneAnswer pipe-run
+one-pipe-run = one-answer pipe-run
+
+pub one-pipe-run-unlogged : OneAnswer pipe-run-unlogged
+one-pipe-run-unlogged = one-answer pipe-run-unlogged
+
+-- what equal answers have in common, part by part
+pub same-plain : {n i : ℕ} {k j : Machine} {m u : Memory} {l v : List ℕ} → plainAnswer n k m l ≡ plainAnswer i j u v → (n ≡ i) × (k ≡ j) × (m ≡ u) × (l ≡ v)
+same-plain e = (ap (λ r. r .number) e, ap (λ r. r .machine) e, ap (λ r. r .memory) e, ap (λ r. r .log) e)
+
+pub same-pipe : {n i : ℕ} {k j : Pipeline} {m u : Memory} {a v y w : List ℕ}
+    → pipeAnswer n k m a y ≡ pipeAnswer i j u v w → (n ≡ i) × (k ≡ j) × (m ≡ u) × (a ≡ v) × (y ≡ w)
+same-pipe e = (ap (λ r. r .number) e, ap (λ r. r .pipeline) e, ap (λ r. r .memory) e, ap (λ r. r .addresses) e, ap (λ r. r .cycles) e)
