@@ -1,4 +1,4 @@
--- No record that a fresh start reaches is refused for its contents, so a run can always be continued.
+-- No record that a fresh start reaches is refused for its contents, so within the limit a run can be continued.
 use Prim.Native.Nat.{ℕ, zero, suc, _+_, _/_, _%_, _≤_, _<_}
 use mathlib.Core.Bool.{Bool, true, false, cond, _&&_, _||_}
 use mathlib.Core.List.{List, [], _∷_}

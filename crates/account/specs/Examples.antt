@@ -1,11 +1,11 @@
--- Demand 3 is not vacuous, and its premise is tight: computed.
+-- Demand 3 is not vacuous, its premise is tight, and memory and codes run ahead in mid-run: computed.
 use Prim.Native.Nat.{ℕ, suc, _≤_}
-use mathlib.Core.Bool.{Bool, true, false}
+use mathlib.Core.Bool.{Bool, true, false, true≢false}
 use mathlib.Core.List.{_∷_, _++_}
 use mathlib.Core.Path.{_≡_, refl, ap, sym, _∙_}
 use native.Mathlib.Omega.{arith}
-use lib.ListN.{length, replicate}
-use Rattle.account.specs.Names.{Status, aok, hlt, adr, ins, Kinds}
+use lib.ListN.{length, getD, replicate}
+use Rattle.account.specs.Names.{Status, aok, hlt, adr, ins, Codes, Kinds}
 use Rattle.machine.specs.Types.{statusNumber, isBad}
 use Rattle.machine.specs.Words
 use Rattle.machine.specs.Memory
@@ -17,10 +17,11 @@ use Rattle.machine.specs.Prediction
 use Rattle.machine.specs.Charges
 use Rattle.machine.specs.Pipeline
 use Rattle.machine.specs.Memory.{Memory}
-use Rattle.machine.specs.Plain.{steps}
+use Rattle.machine.specs.Plain.{Plain, steps}
 use Rattle.machine.specs.Prediction.{Settings, asIn01}
 use Rattle.machine.specs.Charges.{due}
-use Rattle.machine.specs.Pipeline.{clocks}
+use Rattle.machine.specs.Pipeline.{Piped, clocks}
+use Rattle.machine.specs.Premise.{Untouched}
 use Rattle.account.specs.Statement.{Start, plainFrom, pipedFrom, Agrees, Demand3}
 use Rattle.account.specs.Decide.{UntouchedWithin, untouched, untouched-sound, touches, clear, all}
 
@@ -132,3 +133,29 @@ two-are-too-few d = go (d asIn01 (from patching) refl 3 (untouched-sound 2 (plai
         let four : 4 ≡ x .0 = x .1 .retired in
         let clash : statusNumber aok ≡ statusNumber hlt = ap statusNumber (x .1 .status ∙ ap (λ (n : ℕ). steps (plainFrom (from patching)) n .machine .status) (sym four)) in
         omega (arith, clash)
+
+-- MEMORY AND CODES IN MID-RUN
+-- demand 3 with more said of the pipeline and of the plain engine after as many instructions
+abbrev pub Demand3And : (Piped → Plain → Type 0) → Type 0
+Demand3And P =
+    (g : Settings) (t : Start) → length (t .registers) ≡ 15 → (k : ℕ) → Untouched (plainFrom t) (suc k) → (c : ℕ) → c ≤ due g (plainFrom t) (suc k)
+    → (n : ℕ) × Agrees g (plainFrom t) (clocks g (pipedFrom t) c) c n × P (clocks g (pipedFrom t) c) (steps (plainFrom t) n)
+
+-- after 5 clocks the call has stored 19 at 56, and has not retired
+pub memory-runs-ahead : Demand3And (λ p s. p .memory ≡ s .memory) → ⊥
+unfolding figures program
+memory-runs-ahead d =
+    let s = plainFrom (from (program 0)) in
+    let x = d asIn01 (from (program 0)) refl 6 (untouched-sound 3 s 7 refl) 5 (omega arith) in
+    let one : 1 ≡ x .0 = x .1 .retired in
+    let clash : _≡_ {A = ℕ} 19 0 = ap (λ (m : Memory). getD m 56 0) (x .2 ∙ ap (λ (n : ℕ). steps s n .memory) (sym one)) in
+    omega arith
+
+-- after 7 the addq has cleared ZF, and has not retired
+pub codes-run-ahead : Demand3And (λ p s. p .pipeline .codes ≡ s .machine .codes) → ⊥
+unfolding figures program
+codes-run-ahead d =
+    let s = plainFrom (from (program 0)) in
+    let x = d asIn01 (from (program 0)) refl 6 (untouched-sound 3 s 7 refl) 7 (omega arith) in
+    let three : 3 ≡ x .0 = x .1 .retired in
+    true≢false (sym (ap (λ (c : Codes). c .zf) (x .2 ∙ ap (λ (n : ℕ). steps s n .machine .codes) (sym three))))

@@ -1,5 +1,5 @@
 -- Demand 3. To be read: Statement. The proof: Laws of the instruction set, Signals of the controls, the Relation, one Clock of it, the Sight
--- of fetch, Timing, Retirement, and the Theorem. What follows from it: Uses, Midrun, TwoRuns. Without the premise: Own, Contents. Of the
+-- of fetch, Timing, Retirement, and the Theorem. What follows from it: Uses, Prefix, Midrun, TwoRuns. Without the premise: Own, Contents. Of the
 -- premise: Decide, Examples.
 pub mod Names
 pub mod Statement
@@ -12,6 +12,7 @@ pub mod Timing
 pub mod Retirement
 pub mod Theorem
 pub mod Uses
+pub mod Prefix
 pub mod Midrun
 pub mod TwoRuns
 pub mod Own

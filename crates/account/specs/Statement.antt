@@ -1,14 +1,14 @@
 -- Demand 3, as it is proved.
-use Prim.Native.Nat.{ℕ, suc, _≤_, _<_}
+use Prim.Native.Nat.{ℕ, zero, suc, _≤_, _<_}
 use mathlib.Core.Bool.{true, false}
 use mathlib.Core.Path.{_≡_}
 use lib.ListN.{length}
-use Rattle.account.specs.Names.{Codes}
+use Rattle.account.specs.Names.{Codes, Kept, noneKept, lastKept}
 use Rattle.machine.specs.Types.{isBad}
 use Rattle.machine.specs.Memory.{Memory, Registers}
-use Rattle.machine.specs.Plain.{Plain, plainOf, plainStart, isStopped, steps}
+use Rattle.machine.specs.Plain.{Plain, plainOf, plainStart, isStopped, accessed, steps}
 use Rattle.machine.specs.Prediction.{Settings}
-use Rattle.machine.specs.Charges.{kindsOf, due, dueCycles}
+use Rattle.machine.specs.Charges.{retiredOf, kindsOf, due, dueCycles}
 use Rattle.machine.specs.Pipeline.{Piped, pipedOf, pipeStart, clocks}
 use Rattle.machine.specs.Premise.{Untouched}
 
@@ -34,6 +34,11 @@ pub record DueBy (g : Settings) (s : Plain) (c n : ℕ) : Type 0 where
   -- and the next, unless there is none, is not due yet
   pub awaited : isStopped (steps s n) ≡ false → c < due g s (suc n)
 
+-- the last of the first n instructions of the plain history, as a pipeline keeps it
+unfoldable pub keptOf : Plain → ℕ → Kept
+keptOf s zero = noneKept
+keptOf s (suc n) = lastKept (retiredOf (accessed (steps s n)))
+
 -- What holds of the pipeline p after c clocks, when n instructions have retired, beside the plain history from s.
 pub record Agrees (g : Settings) (s : Plain) (p : Piped) (c n : ℕ) : Type 0 where
   -- exactly the instructions that are due have retired
@@ -48,7 +53,9 @@ pub record Agrees (g : Settings) (s : Plain) (p : Piped) (c n : ℕ) : Type 0 wh
   pub registers : p .pipeline .registers ≡ steps s n .machine .registers
   pub status : p .pipeline .status ≡ steps s n .machine .status
   pub last : p .pipeline .last ≡ steps s n .machine .last
-  -- while it runs every clock is counted
+  -- while it runs, the instruction last retired is, field for field, the one that the plain engine performed
+  pub kept : isBad (p .pipeline .status) ≡ false → p .pipeline .kept ≡ keptOf s n
+  -- and every clock is counted
   pub running : isBad (p .pipeline .status) ≡ false → p .pipeline .cycles ≡ c
   -- at a stop memory and codes are the plain engine's too, and the cycles counted are those up to the stopping instruction
   pub stopped : isBad (p .pipeline .status) ≡ true

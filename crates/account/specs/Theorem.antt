@@ -6,14 +6,14 @@ use mathlib.Core.List.{append-nil}
 use mathlib.Core.Path.{_≡_, refl, ap, sym, _∙_, subst}
 use native.Mathlib.Omega.{arith}
 use lib.ListN.{length}
-use Rattle.account.specs.Names.{aok, Kept, noneKept, lastKept, bubbleW, inW}
+use Rattle.account.specs.Names.{aok, bubbleW, inW}
 use Rattle.machine.specs.Types.{isBad}
 use Rattle.machine.specs.Plain.{Plain, plainStart, isStopped, fetched, accessed, stoppedBy, steps}
 use Rattle.machine.specs.Prediction.{Settings}
-use Rattle.machine.specs.Charges.{noKinds, reasonFrom, reasonOf, retiredOf, kindsOf, charge, charges, amount, due, dueCycles}
+use Rattle.machine.specs.Charges.{noKinds, reasonFrom, reasonOf, kindsOf, charge, charges, amount, due, dueCycles}
 use Rattle.machine.specs.Pipeline.{Piped, pipeStart, waits, waitsBehind, mended, returnedTo, fetchAddress, lastAfter, retiredAfter, kindsAfter, keptAfter, logged, advanced, stoppedIn, clock, clocks}
 use Rattle.machine.specs.Premise.{Untouched}
-use Rattle.account.specs.Statement.{Start, plainFrom, pipedFrom, DueBy, Agrees, Demand3}
+use Rattle.account.specs.Statement.{Start, plainFrom, pipedFrom, DueBy, keptOf, Agrees, Demand3}
 use Rattle.account.specs.Laws
 use Rattle.account.specs.Laws.{bit}
 use Rattle.account.specs.Signals.{waitsFor}
@@ -24,12 +24,7 @@ use Rattle.account.specs.Timing.{Older, older-later, older-next, exactly
 use Rattle.account.specs.Retirement.{Books, clock-still, clock-bubble, clock-retires, clock-stops, books-retires, books-stops}
 
 module _ (g : Settings) (s : Plain) (k : ℕ) where
-  -- the last instruction retired, after n
-  pub keptOf : ℕ → Kept
-  keptOf zero = noneKept
-  keptOf (suc n) = lastKept (retiredOf (accessed (steps s n)))
-
-  reason-kept : (n : ℕ) → reasonFrom g (keptOf n) (fetched (steps s n)) ≡ reasonOf g s (suc n)
+  reason-kept : (n : ℕ) → reasonFrom g (keptOf s n) (fetched (steps s n)) ≡ reasonOf g s (suc n)
   unfolding keptOf reasonFrom reasonOf
   reason-kept zero = refl
   reason-kept (suc n) = refl
@@ -44,7 +39,7 @@ module _ (g : Settings) (s : Plain) (k : ℕ) where
 
   -- where it stands: it runs on, or it has stopped
   pub data Now (p : Piped) (c n : ℕ) : Type 0 where
-    going : p .pipeline .status ≡ aok → p .pipeline .cycles ≡ c → p .pipeline .kept ≡ keptOf n → AtW g s (suc k) p c n → Now p c n
+    going : p .pipeline .status ≡ aok → p .pipeline .cycles ≡ c → p .pipeline .kept ≡ keptOf s n → AtW g s (suc k) p c n → Now p c n
     ended : isStopped (steps s n) ≡ true → p .pipeline .status ≡ steps s n .machine .status → p .pipeline .registers ≡ steps s n .machine .registers
         → p .pipeline .codes ≡ steps s n .machine .codes → p .memory ≡ steps s n .memory → p .pipeline .cycles ≡ due g s n → Now p c n
 
@@ -66,7 +61,7 @@ module _ (g : Settings) (s : Plain) (k : ℕ) where
 
   module _ (p : Piped) (c n : ℕ) (i : After p c n) where
     agrees-with : DueBy g s c n → p .pipeline .registers ≡ steps s n .machine .registers → p .pipeline .status ≡ steps s n .machine .status
-        → (isBad (p .pipeline .status) ≡ false → p .pipeline .cycles ≡ c)
+        → (isBad (p .pipeline .status) ≡ false → (p .pipeline .kept ≡ keptOf s n) × (p .pipeline .cycles ≡ c))
         → (isBad (p .pipeline .status) ≡ true → (p .memory ≡ steps s n .memory) × (p .pipeline .codes ≡ steps s n .machine .codes) × (p .pipeline .cycles ≡ due g s n))
         → Agrees g s p c n
     agrees-with d r st on off =
@@ -80,7 +75,8 @@ module _ (g : Settings) (s : Plain) (k : ℕ) where
           registers = r;
           status = st;
           last = k .last;
-          running = on;
+          kept = λ h. on h .0;
+          running = λ h. on h .1;
           stopped = off;
         }
 
@@ -93,13 +89,13 @@ module _ (g : Settings) (s : Plain) (k : ℕ) where
         late (inr z) = omega (arith, due-order g s (suc k) (suc n) (omega (arith, z .above)), z .above)
 
         go : Now p c n → Agrees g s p c n
-        go (going h y _ a) =
-            agrees-with (exactly g s (i .older) (λ _. late (late-W g s (suc k) p c n a))) (W-registers p c n a) (h ∙ sym (Laws.sound (steps s n .machine .status) (W-runs p c n a))) (λ _. y)
+        go (going h y v a) =
+            agrees-with (exactly g s (i .older) (λ _. late (late-W g s (suc k) p c n a))) (W-registers p c n a) (h ∙ sym (Laws.sound (steps s n .machine .status) (W-runs p c n a))) (λ _. (v, y))
             (λ b. absurd (true≢false (sym b ∙ ap isBad h)))
         go (ended h st r cd m y) = agrees-with (exactly-stopped g s (i .older) h) r st (λ b. absurd (true≢false (sym h ∙ (sym (ap isBad st) ∙ b)))) (λ _. (m, cd, y))
 
   -- ONE CLOCK
-  counted-next : (p p′ : Piped) (c n : ℕ) → Counted p n → Books g p p′ (accessed (steps s n)) → p .pipeline .cycles ≡ c → p .pipeline .kept ≡ keptOf n
+  counted-next : (p p′ : Piped) (c n : ℕ) → Counted p n → Books g p p′ (accessed (steps s n)) → p .pipeline .cycles ≡ c → p .pipeline .kept ≡ keptOf s n
       → isStopped (steps s n) ≡ false → due g s (suc n) ≡ c + 1 → Counted p′ (suc n)
   unfolding steps dueCycles kindsOf
   counted-next p p′ c n i b y v r t =
@@ -118,7 +114,7 @@ module _ (g : Settings) (s : Plain) (k : ℕ) where
       now = omega arith
 
   module _ (len : (n : ℕ) → length (steps s n .machine .registers) ≡ 15) (u : Untouched s (suc k)) where
-    module _ (p : Piped) (c n : ℕ) (i : Counted p n) (o : Older g s c n) (y : p .pipeline .cycles ≡ c) (v : p .pipeline .kept ≡ keptOf n) (h : p .pipeline .registers ≡ steps s n .machine .registers) where
+    module _ (p : Piped) (c n : ℕ) (i : Counted p n) (o : Older g s c n) (y : p .pipeline .cycles ≡ c) (v : p .pipeline .kept ≡ keptOf s n) (h : p .pipeline .registers ≡ steps s n .machine .registers) where
       after-bubble : isStopped (steps s n) ≡ false → p .pipeline .w ≡ bubbleW → AtM g s (suc k) p c n → After (advanced g p) (suc c) n
       unfolding advanced lastAfter retiredAfter kindsAfter keptAfter logged
       after-bubble r w a =
@@ -162,7 +158,7 @@ module _ (g : Settings) (s : Plain) (k : ℕ) where
     unfolding steps isStopped isBad
     after-clock p c n q i = go (i .now)
       where
-        full : (b : Bool) → isStopped (steps s (suc n)) ≡ b → isBad (p .pipeline .status) ≡ false → p .pipeline .cycles ≡ c → p .pipeline .kept ≡ keptOf n → Known g s (suc k) n
+        full : (b : Bool) → isStopped (steps s (suc n)) ≡ b → isBad (p .pipeline .status) ≡ false → p .pipeline .cycles ≡ c → p .pipeline .kept ≡ keptOf s n → Known g s (suc k) n
             → p .pipeline .registers ≡ steps s n .machine .registers → p .pipeline .w ≡ inW (accessed (steps s n)) → due g s (suc n) ≡ c + 1
             → AtM g s (suc k) p c (suc n) → (n′ : ℕ) × After (clock g p) (suc c) n′
         full true r st y v l h w t a = (

@@ -1,5 +1,5 @@
--- Demand 3 read for two runs: what a caller may compare who holds an answer of the plain run and one of the pipelined run from the same
--- fresh start, neither refused.
+-- Demand 3 read for two runs from the same fresh start, neither refused: what a caller may compare who holds both answers. If the
+-- premise holds up to the pipeline's last clock, all that demand 3 speaks of; if up to instruction k + 1, the first k + 1 lines of the logs.
 use Prim.Native.Nat.{ℕ, zero, suc, _+_, _-_, _≤_, _<_}
 use mathlib.Core.Bool.{Bool, true, false, cond, _||_, true≢false}
 use mathlib.Core.List.{List, [], _∷_, _++_}
@@ -19,10 +19,11 @@ use Rattle.machine.specs.Charges.{kindsOf, due, dueCycles}
 use Rattle.machine.specs.Pipeline.{pipedOf, clocks}
 use Rattle.machine.specs.Premise.{Untouched}
 use Rattle.machine.specs.Runs.{laid, sizeRefused, budgetRefused, logRefused, recordRefused, plainLimit, pipeLimit, plainAnswer, pipeAnswer, lowest, plainRefusal, PlainAnswer, plainDone, plainBy, plainRun, pipeRefusal, PipeAnswer, pipeDone, pipeBy, pipeRun}
-use Rattle.account.specs.Statement.{Start, plainFrom, pipedFrom, Agrees}
+use Rattle.account.specs.Statement.{Start, plainFrom, pipedFrom, DueBy, keptOf, Agrees}
 use Rattle.account.specs.Laws.{or-false, step-logs, step-still}
 use Rattle.account.specs.Timing.{up-to, due-most}
 use Rattle.account.specs.Uses.{due-only, due-stopped}
+use Rattle.account.specs.Prefix.{Begins, begins-all, logs-begin}
 use Rattle.account.specs.Theorem.{demand3}
 
 -- LOGS
@@ -53,13 +54,18 @@ listed l x (suc q) e f = go (listed l x q e (λ n h. f n (omega arith)))
             let e : q ≡ length (l q) + 0 = omega (arith, r .long) in
             ap (λ (y : List ℕ). getD y q 0) grown ∙ (ap (λ (i : ℕ). getD (l q ++ x q ∷ []) i 0) e ∙ getD-append-add (l q) (x q ∷ []) 0 0)
 
--- a log laid over one that is long enough
-laid-at : (es log : List ℕ) (i : ℕ) → i < length es → length es ≤ length log → getD (laid es log) i 0 ≡ getD es i 0
+-- line i of a log laid over a lent one: as the list says with which it begins
+laid-at : (es log : List ℕ) (i : ℕ) → i < length es → i < length log → getD (laid es log) i 0 ≡ getD es i 0
 unfolding laid
 laid-at [] log i h b = absurd (omega arith)
 laid-at (e ∷ es) [] i h b = absurd (omega arith)
 laid-at (e ∷ es) (x ∷ log) zero h b = refl
 laid-at (e ∷ es) (x ∷ log) (suc i) h b = laid-at es log i (omega arith) (omega arith)
+
+line : {es l : List ℕ} {x : ℕ → ℕ} {q : ℕ} → Begins es l → Lists l x q → (log : List ℕ) (i : ℕ) → i < q → i < length log → getD (laid es log) i 0 ≡ x i
+line {es} {l} b r log i h k =
+    laid-at es log i (omega (arith, ap length (b .whole), length-append l (b .rest), r .long)) k
+    ∙ (ap (λ (z : List ℕ). getD z i 0) (b .whole) ∙ (List·getD-append l (b .rest) 0 i (omega (arith, r .long)) ∙ r .at i h))
 
 -- THE PLAIN HISTORY after b steps, of which q performed an instruction
 record Performed (s : Plain) (b q : ℕ) : Type 0 where
@@ -136,105 +142,144 @@ pipe-ran g k m budget a y h =
 pub limit-covers : (g : Settings) (s : Plain) → due g s plainLimit ≤ pipeLimit
 limit-covers g s = due-most g s 65535
 
+-- THE TWO ANSWERS
+abbrev pub plainAnswered : Start → ℕ → List ℕ → PlainAnswer
+plainAnswered t budget log = plainRun (plainFrom t .machine) (t .memory) budget log
+
+abbrev pub pipeAnswered : Settings → Start → ℕ → List ℕ → List ℕ → PipeAnswer
+pipeAnswered g t clocked addresses cycles = pipeRun g (pipedFrom t .pipeline) (t .memory) clocked addresses cycles
+
 -- WHAT MAY BE COMPARED
 pub record RunsAgree (g : Settings) (t : Start) (budget clocked : ℕ) (x : PlainAnswer) (y : PipeAnswer) : Type 0 where
+  -- the plain answer is the plain engine after as many instructions as it counts
+  pub plain : (x .machine ≡ steps (plainFrom t) (x .machine .count) .machine) × (x .memory ≡ steps (plainFrom t) (x .machine .count) .memory)
+  -- exactly the instructions that are due by the pipeline's last clock have retired
+  pub exactly : DueBy g (plainFrom t) clocked (y .pipeline .retired)
   -- line by line, as far as both logs reach: the addresses, and the cycles beside the account
   pub addresses : (i : ℕ) → i < x .machine .count → i < y .pipeline .retired → getD (x .log) i 0 ≡ getD (y .addresses) i 0
   pub cycles : (i : ℕ) → i < y .pipeline .retired → getD (y .cycles) i 0 ≡ due g (plainFrom t) (suc i)
   pub kinds : y .pipeline .kinds ≡ kindsOf g (plainFrom t) (y .pipeline .retired)
-  -- where as many have retired as the plain engine performed
-  pub level : x .machine .count ≡ y .pipeline .retired
-      → (y .pipeline .registers ≡ x .machine .registers) × (y .pipeline .status ≡ x .machine .status) × (y .pipeline .last ≡ x .machine .last)
-  pub level-stopped : x .machine .count ≡ y .pipeline .retired → isBad (y .pipeline .status) ≡ true
-      → (y .memory ≡ x .memory) × (y .pipeline .codes ≡ x .machine .codes) × (y .pipeline .cycles ≡ due g (plainFrom t) (x .machine .count))
-  -- and so it is where either engine stopped and the other's budget reaches as far
+  -- registers, status and last address are the plain engine's after as many instructions
+  pub registers : y .pipeline .registers ≡ steps (plainFrom t) (y .pipeline .retired) .machine .registers
+  pub status : y .pipeline .status ≡ steps (plainFrom t) (y .pipeline .retired) .machine .status
+  pub last : y .pipeline .last ≡ steps (plainFrom t) (y .pipeline .retired) .machine .last
+  -- while it runs so is the instruction last retired, and every clock is counted; at a stop so are memory and codes
+  pub running : isBad (y .pipeline .status) ≡ false → (y .pipeline .kept ≡ keptOf (plainFrom t) (y .pipeline .retired)) × (y .pipeline .cycles ≡ clocked)
+  pub stopped : isBad (y .pipeline .status) ≡ true
+      → (y .memory ≡ steps (plainFrom t) (y .pipeline .retired) .memory) × (y .pipeline .codes ≡ steps (plainFrom t) (y .pipeline .retired) .machine .codes)
+      × (y .pipeline .cycles ≡ due g (plainFrom t) (y .pipeline .retired))
+  -- as many have retired as the plain engine performed where either engine stopped and the other's budget reaches as far
   pub plain-stopped : isBad (x .machine .status) ≡ true → due g (plainFrom t) (x .machine .count) ≤ clocked → x .machine .count ≡ y .pipeline .retired
   pub pipe-stopped : isBad (y .pipeline .status) ≡ true → y .pipeline .retired ≤ budget → x .machine .count ≡ y .pipeline .retired
 
+-- and there the two answers agree
+pub record Level (x : PlainAnswer) (y : PipeAnswer) : Type 0 where
+  pub registers : y .pipeline .registers ≡ x .machine .registers
+  pub status : y .pipeline .status ≡ x .machine .status
+  pub last : y .pipeline .last ≡ x .machine .last
+  pub stopped : isBad (y .pipeline .status) ≡ true → (y .memory ≡ x .memory) × (y .pipeline .codes ≡ x .machine .codes)
+
+pub level : (g : Settings) (t : Start) (budget clocked : ℕ) (x : PlainAnswer) (y : PipeAnswer) → RunsAgree g t budget clocked x y
+    → x .machine .count ≡ y .pipeline .retired → Level x y
+level g t budget clocked x y r e =
+    let m = r .plain .0 in
+    let n = r .plain .1 in
+    record { registers = cc; status = cc; last = cc; stopped = λ h. let w = r .stopped h in (cc (w .0), cc (w .1)) }
+
+module _ (g : Settings) (t : Start) where
+  -- what the first n lines of the logs say
+  log-at : (n : ℕ) → ((i : ℕ) → i < n → isStopped (steps (plainFrom t) i) ≡ false)
+      → Lists (steps (plainFrom t) n .log) (λ i. steps (plainFrom t) i .machine .address) n
+  unfolding steps plainFrom
+  log-at n f = listed (λ i. steps (plainFrom t) i .log) (λ i. steps (plainFrom t) i .machine .address) n refl (λ i h. step-logs (steps (plainFrom t) i) (f i h) .log)
+
+  due-at : (n : ℕ) → Lists (dueCycles g (plainFrom t) n) (λ i. due g (plainFrom t) (suc i)) n
+  unfolding dueCycles
+  due-at n = listed (dueCycles g (plainFrom t)) (λ i. due g (plainFrom t) (suc i)) n refl (λ i h. refl)
+
 module _ (g : Settings) (t : Start) (budget clocked : ℕ) (log addresses cycles : List ℕ) where
-  module _ (q n : ℕ) (x : Performed (plainFrom t) budget q) (y : Agrees g (plainFrom t) (clocks g (pipedFrom t) clocked) clocked n) where
-    -- the addresses of the first m performed, as logged
-    log-at : (m : ℕ) → ((i : ℕ) → i < m → isStopped (steps (plainFrom t) i) ≡ false)
-        → Lists (steps (plainFrom t) m .log) (λ i. steps (plainFrom t) i .machine .address) m
-    unfolding steps plainFrom
-    log-at m f = listed (λ i. steps (plainFrom t) i .log) (λ i. steps (plainFrom t) i .machine .address) m refl (λ i h. step-logs (steps (plainFrom t) i) (f i h) .log)
-
-    due-at : Lists (dueCycles g (plainFrom t) n) (λ i. due g (plainFrom t) (suc i)) n
-    unfolding dueCycles
-    due-at = listed (dueCycles g (plainFrom t)) (λ i. due g (plainFrom t) (suc i)) n refl (λ i h. refl)
-
-    -- no more retire than clocks were made
-    within : n ≤ clocked
-    unfolding due
-    within = go (decLt 0 n)
-      where
-        go : Dec (0 < n) → n ≤ clocked
-        go (yes h) = omega (arith, y .exactly .arrived (n - 1) (omega arith))
-        go (no h) = omega arith
-
+  module _ (q : ℕ) (x : Performed (plainFrom t) budget q) where
     counts : steps (plainFrom t) budget .machine .count ≡ q
     counts = ap (λ (s : Plain). s .machine .count) (x .settled) ∙ x .count
 
-    both-at : q ≡ n → steps (plainFrom t) budget ≡ steps (plainFrom t) n
-    both-at e = x .settled ∙ ap (steps (plainFrom t)) e
+    -- the plain answer is settled
+    there : steps (plainFrom t) budget ≡ steps (plainFrom t) (steps (plainFrom t) budget .machine .count)
+    there = x .settled ∙ ap (steps (plainFrom t)) (sym counts)
 
-    stopped-at-n : isBad (clocks g (pipedFrom t) clocked .pipeline .status) ≡ true → isStopped (steps (plainFrom t) n) ≡ true
-    unfolding isStopped
-    stopped-at-n h = sym (ap isBad (y .status)) ∙ h
+    plain-line : budget ≤ length log → (i : ℕ) → i < q → getD (laid (steps (plainFrom t) budget .log) log) i 0 ≡ steps (plainFrom t) i .machine .address
+    plain-line a i h = line (begins-all (ap (λ (s : Plain). s .log) (x .settled))) (log-at g t q (x .each)) log i h (omega (arith, x .within))
 
-    -- both stopped, or out of budget
-    meet : isStopped (steps (plainFrom t) n) ≡ true → n ≤ budget → q ≡ n
-    meet h b = go (decLt q n) (decLt n q)
-      where
-        go : Dec (q < n) → Dec (n < q) → q ≡ n
-        go (yes z) _ = absurd (omega (arith, x .spent (ap isStopped (x .settled) ∙ y .exactly .performed q z)))
-        go (no _) (yes z) = absurd (true≢false (sym h ∙ x .each n z))
-        go (no z) (no w) = omega arith
+    module _ (n : ℕ) (y : Agrees g (plainFrom t) (clocks g (pipedFrom t) clocked) clocked n) where
+      -- no more retire than clocks were made
+      within : n ≤ clocked
+      unfolding due
+      within = go (decLt 0 n)
+        where
+          go : Dec (0 < n) → n ≤ clocked
+          go (yes h) = omega (arith, y .exactly .arrived (n - 1) (omega arith))
+          go (no h) = omega arith
 
-    done-agree : budget ≤ length log → clocked ≤ length addresses → clocked ≤ length cycles
-        → RunsAgree g t budget clocked (plainDone (steps (plainFrom t) budget) log) (pipeDone (clocks g (pipedFrom t) clocked) addresses cycles)
-    unfolding plainDone pipeDone isStopped
-    done-agree a b c =
-        record {
-          addresses = λ i h k.
-              line (steps (plainFrom t) budget .log) q log i (ap (λ (s : Plain). s .log) (x .settled)) (omega (arith, x .within)) (x .each) (omega (arith, counts))
-              ∙ sym (line (clocks g (pipedFrom t) clocked .addresses) n addresses i (y .addresses) (omega (arith, within)) (y .exactly .performed) (omega (arith, y .retired)));
-          cycles = λ i h.
-              let k : i < n = omega (arith, y .retired) in
-              laid-at (clocks g (pipedFrom t) clocked .cycles) cycles i (omega (arith, ap length (y .cycles), due-at .long)) (omega (arith, ap length (y .cycles), due-at .long, within))
-              ∙ (ap (λ (l : List ℕ). getD l i 0) (y .cycles) ∙ due-at .at i k);
-          kinds = y .kinds ∙ ap (kindsOf g (plainFrom t)) (sym (y .retired));
-          level = λ h.
-              let e = both-at (sym counts ∙ (h ∙ y .retired)) in
-              (y .registers ∙ sym (ap (λ (s : Plain). s .machine .registers) e), y .status ∙ sym (ap (λ (s : Plain). s .machine .status) e), y .last ∙ sym (ap (λ (s : Plain). s .machine .last) e));
-          level-stopped = λ h z.
-              let e = both-at (sym counts ∙ (h ∙ y .retired)) in
-              let w = y .stopped z in
-              (w .0 ∙ sym (ap (λ (s : Plain). s .memory) e), w .1 ∙ sym (ap (λ (s : Plain). s .machine .codes) e), w .2 ∙ ap (due g (plainFrom t)) (sym (y .retired) ∙ sym h));
-          plain-stopped = λ h z.
-              counts
-              ∙ (due-only g (plainFrom t) clocked q n
-              (due-stopped g (plainFrom t) clocked q (x .each) (sym (ap isStopped (x .settled)) ∙ h) (subst (λ (m : ℕ). due g (plainFrom t) m ≤ clocked) counts z)) (y .exactly)
-              ∙ sym (y .retired));
-          pipe-stopped = λ h z. counts ∙ (meet (stopped-at-n h) (omega (arith, y .retired)) ∙ sym (y .retired));
-        }
-      where
-        line : (es : List ℕ) (m : ℕ) (lent : List ℕ) (i : ℕ) → es ≡ steps (plainFrom t) m .log → m ≤ length lent
-            → ((j : ℕ) → j < m → isStopped (steps (plainFrom t) j) ≡ false) → i < m → getD (laid es lent) i 0 ≡ steps (plainFrom t) i .machine .address
-        line es m lent i e k f h =
-            let r = log-at m f in
-            laid-at es lent i (omega (arith, ap length e, r .long)) (omega (arith, ap length e, r .long)) ∙ (ap (λ (l : List ℕ). getD l i 0) e ∙ r .at i h)
+      stopped-at-n : isBad (clocks g (pipedFrom t) clocked .pipeline .status) ≡ true → isStopped (steps (plainFrom t) n) ≡ true
+      unfolding isStopped
+      stopped-at-n h = sym (ap isBad (y .status)) ∙ h
 
-  -- within the premise up to instruction k + 1, and up to its due cycle
-  pub two-runs : length (t .registers) ≡ 15 → (k : ℕ) → Untouched (plainFrom t) (suc k) → clocked ≤ due g (plainFrom t) (suc k)
-      → plainRun (plainFrom t .machine) (t .memory) budget log .number ≡ 0
-      → pipeRun g (pipedFrom t .pipeline) (t .memory) clocked addresses cycles .number ≡ 0
-      → RunsAgree g t budget clocked (plainRun (plainFrom t .machine) (t .memory) budget log) (pipeRun g (pipedFrom t .pipeline) (t .memory) clocked addresses cycles)
-  unfolding plainFrom pipedFrom plainStart
-  two-runs l k u q x y =
-      let a = plain-ran (plainFrom t .machine) (t .memory) budget log x in
-      let b = pipe-ran g (pipedFrom t .pipeline) (t .memory) clocked addresses cycles y in
-      let r = performed (plainFrom t) refl budget in
-      let d = demand3 g t l k u clocked q in
-      subst (λ (z : PlainAnswer). RunsAgree g t budget clocked z (pipeRun g (pipedFrom t .pipeline) (t .memory) clocked addresses cycles)) (sym (a .0))
-      (subst (λ (z : PipeAnswer). RunsAgree g t budget clocked (plainDone (steps (plainFrom t) budget) log) z) (sym (b .0)) (done-agree (r .0) (d .0) (r .1) (d .1) (a .1) (b .1) (b .2)))
+      -- both stopped, or out of budget
+      meet : isStopped (steps (plainFrom t) n) ≡ true → n ≤ budget → q ≡ n
+      meet h b = go (decLt q n) (decLt n q)
+        where
+          go : Dec (q < n) → Dec (n < q) → q ≡ n
+          go (yes z) _ = absurd (omega (arith, x .spent (ap isStopped (x .settled) ∙ y .exactly .performed q z)))
+          go (no _) (yes z) = absurd (true≢false (sym h ∙ x .each n z))
+          go (no z) (no w) = omega arith
+
+      done-agree : budget ≤ length log → clocked ≤ length addresses → clocked ≤ length cycles
+          → RunsAgree g t budget clocked (plainDone (steps (plainFrom t) budget) log) (pipeDone (clocks g (pipedFrom t) clocked) addresses cycles)
+      unfolding plainDone pipeDone isStopped
+      done-agree a b c =
+          let e = y .retired in
+          record {
+            plain = (ap (λ (s : Plain). s .machine) there, ap (λ (s : Plain). s .memory) there);
+            exactly = rw e (y .exactly);
+            addresses = λ i h k.
+                plain-line a i (omega (arith, counts))
+                ∙ sym (line (begins-all (y .addresses)) (log-at g t n (y .exactly .performed)) addresses i (omega arith) (omega (arith, within)));
+            cycles = λ i h. line (begins-all (y .cycles)) (due-at g t n) cycles i (omega arith) (omega (arith, within));
+            kinds = rw e (y .kinds);
+            registers = rw e (y .registers);
+            status = rw e (y .status);
+            last = rw e (y .last);
+            running = λ h. rw e (y .kept h, y .running h);
+            stopped = λ h. rw e (y .stopped h);
+            plain-stopped = λ h z.
+                counts
+                ∙ (due-only g (plainFrom t) clocked q n
+                (due-stopped g (plainFrom t) clocked q (x .each) (sym (ap isStopped (x .settled)) ∙ h) (subst (λ (m : ℕ). due g (plainFrom t) m ≤ clocked) counts z)) (y .exactly)
+                ∙ sym e);
+            pipe-stopped = λ h z. counts ∙ (meet (stopped-at-n h) (omega arith) ∙ sym e);
+          }
+
+  module _ (l : length (t .registers) ≡ 15) (k : ℕ) (u : Untouched (plainFrom t) (suc k)) (x : plainAnswered t budget log .number ≡ 0) (y : pipeAnswered g t clocked addresses cycles .number ≡ 0) where
+    -- the premise up to instruction k + 1, and no clock past its due cycle
+    pub two-runs : clocked ≤ due g (plainFrom t) (suc k) → RunsAgree g t budget clocked (plainAnswered t budget log) (pipeAnswered g t clocked addresses cycles)
+    unfolding plainFrom pipedFrom plainStart
+    two-runs q =
+        let a = plain-ran (plainFrom t .machine) (t .memory) budget log x in
+        let b = pipe-ran g (pipedFrom t .pipeline) (t .memory) clocked addresses cycles y in
+        let r = performed (plainFrom t) refl budget in
+        let d = demand3 g t l k u clocked q in
+        rw (a .0, b .0) (done-agree (r .0) (r .1) (d .0) (d .1) (a .1) (b .1) (b .2))
+
+    -- the premise up to instruction k + 1 alone: its line and those before it, where the plain engine performed it and it is due
+    pub first-lines : k < plainAnswered t budget log .machine .count → due g (plainFrom t) (suc k) ≤ clocked → (i : ℕ) → i < suc k
+        → (getD (plainAnswered t budget log .log) i 0 ≡ getD (pipeAnswered g t clocked addresses cycles .addresses) i 0)
+        × (getD (pipeAnswered g t clocked addresses cycles .cycles) i 0 ≡ due g (plainFrom t) (suc i))
+    unfolding plainFrom pipedFrom plainStart plainDone pipeDone due
+    first-lines h d i b =
+        let a = plain-ran (plainFrom t .machine) (t .memory) budget log x in
+        let p = pipe-ran g (pipedFrom t .pipeline) (t .memory) clocked addresses cycles y in
+        let r = performed (plainFrom t) refl budget in
+        let k′ : k < r .0 = omega (arith, ap (λ (z : PlainAnswer). z .machine .count) (a .0), counts (r .0) (r .1)) in
+        let f = logs-begin g t l k u (r .1 .each k k′) clocked d in
+        let each : (j : ℕ) → j < suc k → isStopped (steps (plainFrom t) j) ≡ false = λ j z. r .1 .each j (omega arith) in
+        rw (a .0, p .0)
+        (plain-line (r .0) (r .1) (a .1) i (omega arith) ∙ sym (line (f .0) (log-at g t (suc k) each) addresses i b (omega arith)), line (f .1) (due-at g t (suc k)) cycles i b (omega arith))

@@ -1,0 +1,42 @@
+-- What a caller of the host edge may rely on beside its equation. Assumes nothing.
+use mathlib.Core.Path.{_≡_, refl, sym, ap, _∙_}
+use mathlib.Core.Bool.{Bool, true, false, cond, not}
+use mathlib.Core.List.{List, [], _∷_}
+use Prim.Native.Nat.{ℕ, zero, suc, _<_}
+use native.Mathlib.Omega.{arith}
+use lib.Dec.{eqb, ltb}
+use lib.ListN.{length}
+use Rattle.machine.specs.Types.{codesNumber}
+use Rattle.machine.specs.Memory.{Memory}
+use Rattle.machine.specs.Charges.{noKinds}
+use Rattle.machine.specs.Pipeline.{pipeStart}
+use Rattle.machine.specs.Runs.{sizeRefused, budgetRefused, logRefused, recordRefused, countsRefused, refusedInD, refusedInE, refusedInM, refusedInW, refusedKept, lowest, pipeLimit, pipeRefusal, pipeDone, pipeBy, pipeRunUnlogged}
+use Rattle.edge.specs.Edge.{codesFrom, edgeRefusal, edgeRun}
+
+-- a test that would have given a number above 0 failed
+failed : (t : Bool) (n x : ℕ) → cond t (suc n) x ≡ 0 → (t ≡ false) × (x ≡ 0)
+failed true n x e = absurd (omega arith)
+failed false n x e = (refl, e)
+
+-- the codes' number, there and back
+pub codes-back : (n : ℕ) → n < 8 → codesNumber (codesFrom n) ≡ n
+unfolding codesNumber codesFrom
+codes-back zero h = refl
+codes-back (suc zero) h = refl
+codes-back (suc (suc zero)) h = refl
+codes-back (suc (suc (suc zero))) h = refl
+codes-back (suc (suc (suc (suc zero)))) h = refl
+codes-back (suc (suc (suc (suc (suc zero))))) h = refl
+codes-back (suc (suc (suc (suc (suc (suc zero)))))) h = refl
+codes-back (suc (suc (suc (suc (suc (suc (suc zero))))))) h = refl
+codes-back (suc (suc (suc (suc (suc (suc (suc (suc n)))))))) h = absurd (omega arith)
+
+-- what the edge lets in, the run inside never refuses
+pub runs-inside : (memory registers result : List ℕ) (start codes budget : ℕ) → edgeRefusal (length memory) (length registers) (length result) codes budget ≡ 0
+    → edgeRun memory registers start codes budget .number ≡ 0
+unfolding edgeRefusal edgeRun pipeRunUnlogged pipeBy pipeDone pipeRefusal lowest logRefused recordRefused countsRefused refusedInD refusedInE refusedInM refusedInW refusedKept pipeStart noKinds
+runs-inside memory registers result start codes budget h =
+    let p = failed (sizeRefused (length memory)) 0 _ h in
+    let q = failed (not (eqb (length registers) 120)) 1 _ (p .1) in
+    let r = failed (budgetRefused pipeLimit 0 budget) 2 _ (q .1) in
+    rw (p .0, r .0)

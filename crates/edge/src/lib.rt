@@ -1,0 +1,125 @@
+// The host edge: one exported function on byte slices and numbers.
+use machine::{Codes, Pipeline, Status};
+ghost use mathlib.Core.Path.{_≡_};
+ghost use mathlib.Core.Bool.{cond};
+ghost use Prim.Native.Nat.{_+_, _*_, _≤_, _<_};
+ghost use lib.ListN.{length, replicate};
+ghost use Rattle.machine.specs.Types.{statusNumber, codesNumber};
+ghost use Rattle.edge.specs.Edge.{wordsIn, withWords, codesFrom, edgeRefusal, resultWords, edge, replayed};
+
+// The fifteen words of a register block.
+fn read_registers(block: &[u8]) -> [u64; 15]
+    requires { ⌜ length (now block) ≡ 120 ⌝ }
+    ensures { λ r. ⌜ r ≡ wordsIn 15 (now (block .entry)) 0 ⌝ }
+{
+    let mut words = [0u64; 15];
+    let mut k: usize = 0;
+    while k < 15 {
+        words[k] = word::load(block, (8 * k) as u64);
+        k += 1;
+    }
+    words
+}
+
+// The words into a block, from its first byte on.
+fn write_words(block: &mut [u8], words: &[u64])
+    requires { ⌜ 8 * length (now words) ≤ length (now block) ⌝ }
+    ensures { λ _. ⌜ now (block .exit) ≡ withWords (now (words .entry)) (now (block .entry)) 0 ⌝ }
+{
+    let mut k: usize = 0;
+    while k < words.len() {
+        word::store(block, (8 * k) as u64, words[k]);
+        k += 1;
+    }
+}
+
+fn codes_from(number: u64) -> Codes
+    ensures { λ r. ⌜ r ≡ codesFrom number ⌝ }
+{
+    Codes {
+        zf: number / 4 == 1,
+        sf: number / 2 % 2 == 1,
+        of: number % 2 == 1,
+    }
+}
+
+fn bit(b: bool) -> u64
+    ensures { λ r. ⌜ (r ≡ cond b 1 0) × (r ≤ 1) ⌝ }
+{
+    if b { 1 } else { 0 }
+}
+
+fn codes_number(c: Codes) -> u64
+    ensures { λ r. ⌜ r ≡ codesNumber c ⌝ }
+{
+    4 * bit(c.zf) + 2 * bit(c.sf) + bit(c.of)
+}
+
+fn status_number(status: Status) -> u64
+    ensures { λ r. ⌜ r ≡ statusNumber status ⌝ }
+{
+    match status {
+        Status::Aok => 1,
+        Status::Hlt => 2,
+        Status::Adr => 3,
+        Status::Ins => 4,
+    }
+}
+
+// The five result words.
+fn write_result(result: &mut [u8], end: Pipeline)
+    requires { ⌜ length (now result) ≡ 40 ⌝ }
+    ensures { λ _. ⌜ now (result .exit) ≡ withWords (resultWords end) (now (result .entry)) 0 ⌝ }
+{
+    let status = end.status;
+    let codes = end.codes;
+    let words = [status_number(status), end.last, codes_number(codes), end.retired, end.cycles];
+    write_words(result, &words);
+}
+
+fn write_registers(block: &mut [u8], end: Pipeline)
+    requires { ⌜ length (now block) ≡ 120 ⌝ }
+    ensures { λ _. ⌜ now (block .exit) ≡ withWords (end .registers) (now (block .entry)) 0 ⌝ }
+{
+    let registers = end.registers;
+    write_words(block, &registers);
+}
+
+// The lowest refusal that applies, or 0.
+fn refusal(memory: usize, registers: usize, result: usize, codes: u64, budget: u64) -> u64
+    ensures { λ r. ⌜ r ≡ edgeRefusal memory registers result codes budget ⌝ }
+{
+    if limits::size_refused(memory) {
+        return 1;
+    }
+    if registers != 120 {
+        return 2;
+    }
+    if limits::budget_refused(262145, 0, budget) {
+        return 3;
+    }
+    if result != 40 {
+        return 4;
+    }
+    if 7 < codes {
+        return 5;
+    }
+    0
+}
+
+// One pipelined run without logs from a fresh start.
+#[no_mangle]
+pub extern "C" fn y86_replay(memory: &mut [u8], registers: &mut [u8], result: &mut [u8], start: u64, codes: u64, budget: u64) -> u64
+    ensures { λ r. ⌜ edge r (now (memory .exit)) (now (registers .exit)) (now (result .exit)) ≡ replayed (now (memory .entry)) (now (registers .entry)) (now (result .entry)) start codes budget ⌝ }
+{
+    let number = refusal(memory.len(), registers.len(), result.len(), codes, budget);
+    if number != 0 {
+        return number;
+    }
+    let fresh = pipe::start(read_registers(registers), codes_from(codes), start);
+    let answer = pipe::run_unlogged(fresh, memory, budget);
+    let end = answer.pipeline;
+    write_registers(registers, end);
+    write_result(result, end);
+    0
+}

@@ -1,0 +1,93 @@
+-- From what the entries share to the answer that each of them promises. Assumes nothing.
+use mathlib.Core.Path.{_≡_, refl, ap, sym, _∙_}
+use mathlib.Core.Bool.{Bool, true, false, cond, _||_}
+use mathlib.Core.List.{List, [], _∷_}
+use Prim.Native.Nat.{ℕ, _+_, _≤_}
+use native.Mathlib.Omega.{arith}
+use lib.Dec.{eqb, ltb}
+use lib.ListN.{length}
+use borrow.Author.Tests.{eq-eqb, ne-eqb, ltb-false}
+use Rattle.machine.specs.declared.Pipeline.{Pipeline}
+use Rattle.machine.specs.Memory.{Memory}
+use Rattle.machine.specs.Prediction.{asIn01}
+use Rattle.machine.specs.Pipeline.{pipedOf, clocks}
+use Rattle.machine.specs.Runs.{laid, sizeRefused, budgetRefused, logRefused, refusedInD, refusedInE, refusedInM, refusedInW, refusedKept, countsRefused, recordRefused, lowest, pipeLimit, pipeRefusal, PipeAnswer, pipeAnswer, pipeDone, pipeBy, pipeRun, pipeRunUnlogged, pipeClock}
+use Rattle.pipe.specs.Parts.{refusalBy, answerBy}
+use Rattle.pipe.proofs.Runs.{or-right}
+
+module _ (short : Bool) (k : Pipeline) (m : Memory) (budget : ℕ) (a y : List ℕ) (n : ℕ) (e : n ≡ refusalBy short k (length m) budget) where
+  pub refused : (n ≡ 0 → ⊥) → pipeAnswer n k m a y ≡ answerBy short k m budget a y
+  unfolding answerBy
+  refused h = cc (ne-eqb n 0 h)
+
+  pub performed : n ≡ 0 → (p : Pipeline) (m′ a′ y′ : List ℕ) → pipeAnswer 0 p m′ a′ y′ ≡ pipeDone (clocks asIn01 (pipedOf k m) budget) a y
+      → pipeAnswer 0 p m′ a′ y′ ≡ answerBy short k m budget a y
+  unfolding answerBy
+  performed h p m′ a′ y′ d = cc (eq-eqb n 0 h)
+
+-- no refusal: the budget is within the limit, and the record's counts are within its cycles
+none-true : (s b l r : Bool) → lowest ((1, s) ∷ (3, b) ∷ (4, l) ∷ (5, r) ∷ []) ≡ 0 → (b ≡ false) × (r ≡ false)
+unfolding lowest
+none-true true b l r h = absurd (omega arith)
+none-true false true l r h = absurd (omega arith)
+none-true false false true r h = absurd (omega arith)
+none-true false false false true h = absurd (omega arith)
+none-true false false false false h = (refl, refl)
+
+pub accepted : (short : Bool) (k : Pipeline) (size budget n : ℕ) → n ≡ refusalBy short k size budget → n ≡ 0 → (k .cycles + budget ≤ 262145) × (countsRefused k ≡ false)
+unfolding refusalBy budgetRefused recordRefused
+accepted short k size budget n e h =
+    let f = none-true (sizeRefused size) (budgetRefused pipeLimit (k .cycles) budget) short (recordRefused k) (sym e ∙ h) in (
+      omega (arith, ltb-false pipeLimit (k .cycles + budget) (or-right (eqb budget 0) _ (f .0))),
+      or-right (refusedKept (k .kept)) _ (or-right (refusedInW (k .w)) _ (or-right (refusedInM (k .m)) _ (or-right (refusedInE (k .e)) _ (or-right (refusedInD (k .d)) _ (f .1))))),
+    )
+
+-- WITH LOGS AND WITHOUT
+by-logs : (logs : List ℕ) (short : Bool) (k : Pipeline) (m : Memory) (budget : ℕ) (a y : List ℕ) → short ≡ logRefused logs budget
+    → answerBy short k m budget a y ≡ pipeBy asIn01 logs k m budget a y
+unfolding answerBy refusalBy pipeBy pipeRefusal
+by-logs logs short k m budget a y e = rw e
+
+or-none : (s t : Bool) → (s || t) ≡ (s || (t || false))
+or-none true t = refl
+or-none false true = refl
+or-none false false = refl
+
+pub with-logs : (k : Pipeline) (m : Memory) (budget : ℕ) (a y : List ℕ) (t : PipeAnswer) → t ≡ answerBy (ltb (length a) budget || ltb (length y) budget) k m budget a y
+    → t ≡ pipeRun asIn01 k m budget a y
+unfolding pipeRun logRefused
+with-logs k m budget a y t e = e ∙ by-logs (length a ∷ length y ∷ []) _ k m budget a y (or-none (ltb (length a) budget) (ltb (length y) budget))
+
+pub laid-none : (es : List ℕ) → laid es [] ≡ []
+unfolding laid
+laid-none [] = refl
+laid-none (e ∷ es) = refl
+
+-- a log with no places has none afterwards
+module _ (k : Pipeline) (m : Memory) (budget : ℕ) where
+  unlogged : answerBy false k m budget [] [] .addresses ≡ []
+  unfolding answerBy pipeDone
+  unlogged = go (eqb (refusalBy false k (length m) budget) 0)
+    where
+      go : (b : Bool) → cond b (pipeDone (clocks asIn01 (pipedOf k m) budget) [] []) (pipeAnswer (refusalBy false k (length m) budget) k m [] []) .addresses ≡ []
+      go true = laid-none (clocks asIn01 (pipedOf k m) budget .addresses)
+      go false = refl
+
+  untimed : answerBy false k m budget [] [] .cycles ≡ []
+  unfolding answerBy pipeDone
+  untimed = go (eqb (refusalBy false k (length m) budget) 0)
+    where
+      go : (b : Bool) → cond b (pipeDone (clocks asIn01 (pipedOf k m) budget) [] []) (pipeAnswer (refusalBy false k (length m) budget) k m [] []) .cycles ≡ []
+      go true = laid-none (clocks asIn01 (pipedOf k m) budget .cycles)
+      go false = refl
+
+  pub without-logs : (n : ℕ) (p : Pipeline) (m′ a′ y′ : List ℕ) → pipeAnswer n p m′ a′ y′ ≡ answerBy false k m budget [] [] → pipeAnswer n p m′ [] [] ≡ pipeRunUnlogged asIn01 k m budget
+  unfolding pipeRunUnlogged logRefused
+  without-logs n p m′ a′ y′ e =
+      let ea : a′ ≡ [] = ap (λ (t : PipeAnswer). t .addresses) e ∙ unlogged in
+      let ey : y′ ≡ [] = ap (λ (t : PipeAnswer). t .cycles) e ∙ untimed in
+      cc (by-logs [] false k m budget [] [] refl)
+
+pub one-clock : (k : Pipeline) (m : Memory) (t : PipeAnswer) → t ≡ pipeRunUnlogged asIn01 k m 1 → t ≡ pipeClock asIn01 k m
+unfolding pipeClock
+one-clock k m t e = e

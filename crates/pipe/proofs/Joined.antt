@@ -1,0 +1,175 @@
+-- "Running a then b cycles equals running a + b, logs joined, where none of the three is refused." A theorem of the definitions, at any
+-- settings: `joined`, at the end. Assumes nothing.
+use mathlib.Core.Path.{_≡_, refl, ap, sym, _∙_}
+use mathlib.Core.Bool.{Bool, true, false, cond}
+use mathlib.Core.List.{List, [], _∷_, _++_, append-assoc, append-nil}
+use Prim.Native.Nat.{ℕ, zero, suc, _+_, _-_}
+use native.Mathlib.Nat.{add-zero, add-suc}
+use native.Mathlib.Omega.{arith}
+use lib.Dec.{eqb}
+use lib.ListN.{length, take, drop, length-append}
+use borrow.Author.Tests.{eqb-false}
+use Rattle.machine.specs.declared.Pipeline.{Pipeline}
+use Rattle.machine.specs.declared.StageD.{StageD}
+use Rattle.machine.specs.declared.StageD.the-variants.{BubbleD as bubbleD, InD as inD}
+use Rattle.machine.specs.declared.StageW.{StageW}
+use Rattle.machine.specs.declared.StageW.the-variants.{BubbleW as bubbleW, InW as inW}
+use Rattle.machine.specs.Types.{isBad}
+use Rattle.machine.specs.Memory.{Memory}
+use Rattle.machine.specs.Prediction.{Settings}
+use Rattle.machine.specs.Pipeline.{Piped, pipedOf, source, sourceM, sourceW, waits, mispredicts, returns, fails, fetchAddress, fetchedNow, nextF, nextD, nextE, nextM, nextCodes, decodedD, lastAfter, retiredAfter, logged, advanced, stoppedIn, clockBy, clock, clocks}
+use Rattle.machine.specs.Runs.{laid, pipeRefusal, PipeAnswer, pipeAnswer, pipeDone, pipeBy, pipeRun}
+use Rattle.pipe.proofs.Entries.{laid-none}
+
+-- LOGS
+laid-join : (es fs log : List ℕ) → laid (es ++ fs) log ≡ take (length es) (laid es log) ++ laid fs (drop (length es) (laid es log))
+unfolding laid
+laid-join [] fs log = refl
+laid-join (e ∷ es) fs [] = sym (laid-none fs)
+laid-join (e ∷ es) fs (x ∷ log) = ap (λ (l : List ℕ). e ∷ l) (laid-join es fs log)
+
+-- with entries before those of p
+before : List ℕ → List ℕ → Piped → Piped
+before es ys p = record { pipeline = p .pipeline; memory = p .memory; addresses = es ++ p .addresses; cycles = ys ++ p .cycles }
+
+module _ (g : Settings) (es ys : List ℕ) where
+  decoded-before : (p : Piped) (d : StageD) → decodedD (before es ys p) d ≡ decodedD p d
+  unfolding before decodedD source sourceM sourceW
+  decoded-before p bubbleD = refl
+  decoded-before p (inD i) = refl
+
+  advanced-before : (p : Piped) → advanced g (before es ys p) ≡ before es ys (advanced g p)
+  unfolding before advanced waits mispredicts returns fails fetchAddress fetchedNow nextF nextD nextE nextM nextCodes
+  advanced-before p = rw (decoded-before p (p .pipeline .d), append-assoc es, append-assoc ys)
+
+  by-before : (p : Piped) (w : StageW) → clockBy g (before es ys p) w ≡ before es ys (clockBy g p w)
+  unfolding clockBy stoppedIn before
+  by-before p bubbleW = advanced-before p
+  by-before p (inW w) = go (isBad (w .status))
+    where
+      go : (b : Bool) → cond b (stoppedIn g (before es ys p) w) (advanced g (before es ys p)) ≡ before es ys (cond b (stoppedIn g p w) (advanced g p))
+      go true = simp append-assoc
+      go false = advanced-before p
+
+  clock-before : (p : Piped) → clock g (before es ys p) ≡ before es ys (clock g p)
+  unfolding clock before
+  clock-before p = go (isBad (p .pipeline .status))
+    where
+      go : (b : Bool) → cond b (before es ys p) (clockBy g (before es ys p) (p .pipeline .w)) ≡ before es ys (cond b p (clockBy g p (p .pipeline .w)))
+      go true = refl
+      go false = by-before p (p .pipeline .w)
+
+  clocks-before : (p : Piped) (n : ℕ) → clocks g (before es ys p) n ≡ before es ys (clocks g p n)
+  unfolding clocks
+  clocks-before p zero = refl
+  clocks-before p (suc n) = ap (clock g) (clocks-before p n) ∙ clock-before (clocks g p n)
+
+-- COUNTS: each retirement is logged once
+pub record Even (p q : Piped) : Type 0 where
+  pub addresses : p .pipeline .retired + length (q .addresses) ≡ q .pipeline .retired + length (p .addresses)
+  pub cycles : p .pipeline .retired + length (q .cycles) ≡ q .pipeline .retired + length (p .cycles)
+
+even : (p : Piped) → Even p p
+even p = record { addresses = refl; cycles = refl }
+
+module _ (g : Settings) where
+  one-logged : (w : StageW) (es : List ℕ) (x n : ℕ) → n + length (es ++ logged w x) ≡ retiredAfter w n + length es
+  unfolding logged retiredAfter
+  one-logged bubbleW es x n = rw append-nil
+  one-logged (inW w) es x n = rw length-append (omega arith)
+
+  advanced-even : (p : Piped) → Even p (advanced g p)
+  unfolding advanced
+  advanced-even p =
+      let k = p .pipeline in
+      record { addresses = one-logged (k .w) (p .addresses) _ (k .retired); cycles = one-logged (k .w) (p .cycles) _ (k .retired) }
+
+  by-even : (p : Piped) (w : StageW) → Even p (clockBy g p w)
+  unfolding clockBy stoppedIn
+  by-even p bubbleW = advanced-even p
+  by-even p (inW w) = go (isBad (w .status))
+    where
+      go : (b : Bool) → Even p (cond b (stoppedIn g p w) (advanced g p))
+      go true = record { addresses = rw length-append (omega arith); cycles = rw length-append (omega arith) }
+      go false = advanced-even p
+
+  clock-even : (p : Piped) → Even p (clock g p)
+  unfolding clock
+  clock-even p = go (isBad (p .pipeline .status))
+    where
+      go : (b : Bool) → Even p (cond b p (clockBy g p (p .pipeline .w)))
+      go true = even p
+      go false = by-even p (p .pipeline .w)
+
+  clocks-even : (p : Piped) (n : ℕ) → Even p (clocks g p n)
+  unfolding clocks
+  clocks-even p zero = even p
+  clocks-even p (suc n) =
+      let e = clocks-even p n in
+      let f = clock-even (clocks g p n) in
+      record { addresses = omega (arith, e .addresses, f .addresses); cycles = omega (arith, e .cycles, f .cycles) }
+
+  -- FURTHER CLOCKS
+  clocks-add : (p : Piped) (a b : ℕ) → clocks g p (a + b) ≡ clocks g (clocks g p a) b
+  unfolding clocks
+  clocks-add p a zero = rw add-zero
+  clocks-add p a (suc b) = rw (add-suc a b) (ap (clock g) (clocks-add p a b))
+
+  clocks-join : (p : Piped) (a b : ℕ)
+      → clocks g p (a + b) ≡ before (clocks g p a .addresses) (clocks g p a .cycles) (clocks g (pipedOf (clocks g p a .pipeline) (clocks g p a .memory)) b)
+  unfolding before
+  clocks-join p a b =
+      let s = clocks g p a in
+      clocks-add p a b ∙ simp append-nil at (clocks-before g (s .addresses) (s .cycles) (pipedOf (s .pipeline) (s .memory)) b)
+
+  -- THE THEOREM
+  -- a run that is not refused
+  done : (k : Pipeline) (m : Memory) (n : ℕ) (a y : List ℕ) → pipeRun g k m n a y .number ≡ 0 → pipeRun g k m n a y ≡ pipeDone (clocks g (pipedOf k m) n) a y
+  unfolding pipeRun pipeBy
+  done k m n a y = go (eqb refusal 0) refl
+    where
+      refusal : ℕ
+      refusal = pipeRefusal k (length m) n (length a ∷ length y ∷ [])
+
+      go : (b : Bool) → eqb refusal 0 ≡ b → cond b (pipeDone (clocks g (pipedOf k m) n) a y) (pipeAnswer refusal k m a y) .number ≡ 0
+          → cond b (pipeDone (clocks g (pipedOf k m) n) a y) (pipeAnswer refusal k m a y) ≡ pipeDone (clocks g (pipedOf k m) n) a y
+      go true e h = refl
+      go false e h = absurd (eqb-false refusal 0 e h)
+
+  -- the answers f, h and b of the first run, the second and both, over the states s and r in which the first two end
+  from-states : (s r : Piped) (n : ℕ) (log times : List ℕ) (f h b : PipeAnswer) → f .addresses ≡ laid (s .addresses) log → f .cycles ≡ laid (s .cycles) times
+      → n ≡ length (s .addresses) → n ≡ length (s .cycles) → h ≡ pipeDone r (drop n (f .addresses)) (drop n (f .cycles)) → b ≡ pipeDone (before (s .addresses) (s .cycles) r) log times
+      → b ≡ pipeAnswer 0 (h .pipeline) (h .memory) (take n (f .addresses) ++ h .addresses) (take n (f .cycles) ++ h .cycles)
+  unfolding pipeDone before
+  from-states s r n log times f h b fa fy ea ey eh eb =
+      rw (eb, eh) (cc (laid-join (s .addresses) (r .addresses) log, laid-join (s .cycles) (r .cycles) times))
+
+  -- the first run, its retirements, the second run, from where the first one left it and with the places that it left in the logs, and
+  -- the run of both budgets
+  module _ (k : Pipeline) (m : Memory) (a b : ℕ) (log times : List ℕ) where
+    abbrev pub first : PipeAnswer
+    first = pipeRun g k m a log times
+
+    abbrev pub retirements : ℕ
+    retirements = first .pipeline .retired - k .retired
+
+    abbrev pub second : PipeAnswer
+    second = pipeRun g (first .pipeline) (first .memory) b (drop retirements (first .addresses)) (drop retirements (first .cycles))
+
+    abbrev pub both : PipeAnswer
+    both = pipeRun g k m (a + b) log times
+
+    pub joined : first .number ≡ 0 → second .number ≡ 0 → both .number ≡ 0
+        → both ≡ pipeAnswer 0 (second .pipeline) (second .memory) (take retirements (first .addresses) ++ second .addresses) (take retirements (first .cycles) ++ second .cycles)
+    unfolding pipeDone
+    joined hf hs hb =
+        let s = clocks g (pipedOf k m) a in
+        let e = clocks-even (pipedOf k m) a in
+        let f = done k m a log times hf in
+        let p : first .pipeline ≡ s .pipeline = ap (λ (t : PipeAnswer). t .pipeline) f in
+        let y : first .memory ≡ s .memory = ap (λ (t : PipeAnswer). t .memory) f in
+        let n = ap (λ (x : Pipeline). x .retired) p in
+        from-states s (clocks g (pipedOf (first .pipeline) (first .memory)) b) retirements log times first second both
+        (ap (λ (t : PipeAnswer). t .addresses) f) (ap (λ (t : PipeAnswer). t .cycles) f) (omega (arith, e .addresses, n)) (omega (arith, e .cycles, n))
+        (done (first .pipeline) (first .memory) b (drop retirements (first .addresses)) (drop retirements (first .cycles)) hs)
+        (done k m (a + b) log times hb ∙ rw (p, y) (ap (λ (t : Piped). pipeDone t log times) (clocks-join (pipedOf k m) a b)))

@@ -1,0 +1,5 @@
+pub mod Ways
+pub mod Clocks
+pub mod Runs
+pub mod Entries
+pub mod Joined

@@ -1,0 +1,16 @@
+use Rattle.pipe.proofs.Ways.{fetched-is}
+use borrow.Author.Needs.{needs}
+use Rattle.pipe.proofs.moving.fetch_now.Statement.{statement}
+use Rattle.pipe.proofs.moving.fetch_now.Tie as tie
+
+fetch-address-requires : tie.Need-fetch-address-requires
+fetch-address-requires c κs = search needs
+
+fetch-requires : tie.Need-fetch-requires
+fetch-requires c κs = search needs
+
+returns : tie.Need-returns
+returns c = search (needs, fetched-is)
+
+pub fetch-now-spec : {M : Type 1} → statement M
+fetch-now-spec = tie.close (tie.spec fetch-address-requires fetch-requires returns)

@@ -1,0 +1,29 @@
+use Rattle.pipe.proofs.Ways.{signals-are}
+use borrow.Author.Needs.{needs}
+use Rattle.pipe.proofs.moving.signals_now.Statement.{statement}
+use Rattle.pipe.proofs.moving.signals_now.Tie as tie
+
+waits-behind-requires : tie.Need-waits-behind-requires
+waits-behind-requires c κs = search needs
+
+wrong-requires : tie.Need-wrong-requires
+wrong-requires c κs = search needs
+
+ret-on-the-way-requires : tie.Need-ret-on-the-way-requires
+ret-on-the-way-requires c κs = search needs
+
+bad-in-w-requires : tie.Need-bad-in-w-requires
+bad-in-w-requires c κs = search needs
+
+returns : tie.Need-returns
+returns c = search (needs, signals-are)
+
+pub signals-now-spec : {M : Type 1} → statement M
+signals-now-spec =
+    tie.close
+    (tie.spec
+    waits-behind-requires
+    wrong-requires
+    ret-on-the-way-requires
+    bad-in-w-requires
+    returns)

@@ -1,0 +1,40 @@
+use Rattle.pipe.proofs.Entries.{refused, performed, accepted}
+use borrow.Author.Needs.{needs}
+use Rattle.pipe.proofs.perform.Statement.{statement}
+use Rattle.pipe.proofs.perform.Tie as tie
+
+refusal-requires : tie.Need-refusal-requires
+refusal-requires c κs = search needs
+
+returns : tie.Need-returns
+returns c = refused _ _ _ _ _ _ _ (c .before .refusal .ensures) (c .if1 .taken)
+
+looped-requires : tie.Need-looped-requires
+looped-requires c κs = accepted _ _ _ _ _ (c .before .before .before .before .refusal .ensures) (c .before .before .before .if1 .left)
+
+same-length : tie.Need-same-length
+same-length c = search needs
+
+same-length-2 : tie.Need-same-length-2
+same-length-2 c = search needs
+
+same-length-3 : tie.Need-same-length-3
+same-length-3 c = search needs
+
+returns-2 : tie.Need-returns-2
+returns-2 c =
+    let called = c .before .before .before .before .before .before in
+    let tested = called .before .before .before .before in
+    performed _ _ _ _ _ _ _ (tested .before .refusal .ensures) (tested .if1 .left) _ _ _ _ (called .looped .ensures)
+
+pub perform-spec : {M : Type 1} → statement M
+perform-spec =
+    tie.close
+    (tie.spec
+    refusal-requires
+    returns
+    looped-requires
+    same-length
+    same-length-2
+    same-length-3
+    returns-2)

@@ -1,0 +1,111 @@
+// The pipelined engine: a fresh start, one clock, and a run with a cycle budget and two lent logs.
+pub mod moving;
+pub mod refusing;
+pub mod running;
+
+use crate::refusing::refusal;
+use crate::running::looped;
+use machine::Codes;
+use machine::Kept;
+use machine::Kinds;
+use machine::Pipeline;
+use machine::StageD;
+use machine::StageE;
+use machine::StageM;
+use machine::StageW;
+use machine::Status;
+ghost use mathlib.Core.Path.{_≡_};
+ghost use mathlib.Core.List.{[]};
+ghost use Rattle.machine.specs.Prediction.{asIn01};
+ghost use Rattle.machine.specs.Pipeline.{pipeStart};
+ghost use Rattle.machine.specs.Runs.{pipeAnswer, pipeRun, pipeRunUnlogged, pipeClock};
+ghost use Rattle.pipe.specs.Parts.{answerBy};
+
+// Document 01's number, 0 or that of a refusal, and the record.
+pub struct Answer {
+    pub number: u64,
+    pub pipeline: Pipeline,
+}
+
+pub fn start(registers: [u64; 15], codes: Codes, address: u64) -> Pipeline
+    ensures { λ r. ⌜ r ≡ pipeStart registers codes address ⌝ }
+{
+    Pipeline {
+        predicted: address,
+        d: StageD::BubbleD,
+        e: StageE::BubbleE,
+        m: StageM::BubbleM,
+        w: StageW::BubbleW,
+        registers,
+        codes,
+        status: Status::Aok,
+        last: address,
+        retired: 0,
+        cycles: 0,
+        kinds: Kinds {
+            loaduse: 0,
+            mispredict: 0,
+            returned: 0,
+        },
+        kept: Kept::NoneKept,
+    }
+}
+
+// What the entries share: short says that a lent log is shorter than the budget, and empty logs mean none.
+fn perform(
+    pipeline: Pipeline,
+    memory: &mut [u8],
+    budget: u64,
+    short: bool,
+    addresses: &mut [u64],
+    cycles: &mut [u64],
+) -> Answer
+    ensures { λ r. ⌜ pipeAnswer (r .number) (r .pipeline) (now (memory .exit)) (now (addresses .exit)) (now (cycles .exit)) ≡ answerBy short pipeline (now (memory .entry)) budget (now (addresses .entry)) (now (cycles .entry)) ⌝ }
+{
+    let number = refusal(pipeline, memory.len(), budget, short);
+    if number != 0 {
+        return Answer { number, pipeline };
+    }
+    let after = looped(pipeline, memory, budget, addresses, cycles);
+    Answer {
+        number: 0,
+        pipeline: after,
+    }
+}
+
+// A run with both logs.
+pub fn run(
+    pipeline: Pipeline,
+    memory: &mut [u8],
+    budget: u64,
+    addresses: &mut [u64],
+    cycles: &mut [u64],
+) -> Answer
+    ensures { λ r. ⌜ pipeAnswer (r .number) (r .pipeline) (now (memory .exit)) (now (addresses .exit)) (now (cycles .exit)) ≡ pipeRun asIn01 pipeline (now (memory .entry)) budget (now (addresses .entry)) (now (cycles .entry)) ⌝ }
+{
+    let short = ((addresses.len() as u64) < budget) | ((cycles.len() as u64) < budget);
+    perform(pipeline, memory, budget, short, addresses, cycles)
+}
+
+// A run without logs.
+pub fn run_unlogged(pipeline: Pipeline, memory: &mut [u8], budget: u64) -> Answer
+    ensures { λ r. ⌜ pipeAnswer (r .number) (r .pipeline) (now (memory .exit)) [] [] ≡ pipeRunUnlogged asIn01 pipeline (now (memory .entry)) budget ⌝ }
+{
+    let mut addresses = [0u64; 1];
+    let mut cycles = [0u64; 1];
+    perform(
+        pipeline,
+        memory,
+        budget,
+        false,
+        &mut addresses[..0],
+        &mut cycles[..0],
+    )
+}
+
+// A clock is a run of 1 without logs.
+pub fn clock(pipeline: Pipeline, memory: &mut [u8]) -> Answer
+    ensures { λ r. ⌜ pipeAnswer (r .number) (r .pipeline) (now (memory .exit)) [] [] ≡ pipeClock asIn01 pipeline (now (memory .entry)) ⌝ }
+{
+    run_unlogged(pipeline, memory, 1)
+}

@@ -1,0 +1,123 @@
+// The refusals, of which the lowest number wins.
+use isa::rows::functions_of;
+use limits::budget_refused;
+use limits::size_refused;
+use machine::Instruction;
+use machine::Kept;
+use machine::Pipeline;
+use machine::StageD;
+use machine::StageE;
+use machine::StageM;
+use machine::StageW;
+ghost use mathlib.Core.Path.{_≡_};
+ghost use Rattle.machine.specs.Runs.{instructionRefused, refusedInD, refusedInE, refusedInM, refusedInW, refusedKept, countsRefused, recordRefused};
+ghost use Rattle.pipe.specs.Parts.{refusalBy};
+
+// A register over 15, a code without functions, a move, jump or OPq function that the table has not.
+fn instruction_refused(i: Instruction) -> bool
+    ensures { λ r. ⌜ r ≡ instructionRefused i ⌝ }
+{
+    let functions = functions_of(i.code);
+    let tested = (i.code == 2) | ((i.code == 7) | (i.code == 6));
+    (15 < i.ra) | ((15 < i.rb) | ((functions == 0) | (tested & (functions <= i.function))))
+}
+
+fn refused_in_d(d: StageD) -> bool
+    ensures { λ r. ⌜ r ≡ refusedInD d ⌝ }
+{
+    match d {
+        StageD::BubbleD => false,
+        StageD::InD(i) => instruction_refused(i),
+    }
+}
+
+fn refused_in_e(e: StageE) -> bool
+    ensures { λ r. ⌜ r ≡ refusedInE e ⌝ }
+{
+    match e {
+        StageE::BubbleE => false,
+        StageE::InE(x) => {
+            let i = x.instruction;
+            instruction_refused(i)
+        }
+    }
+}
+
+fn refused_in_m(m: StageM) -> bool
+    ensures { λ r. ⌜ r ≡ refusedInM m ⌝ }
+{
+    match m {
+        StageM::BubbleM => false,
+        StageM::InM(x) => {
+            let i = x.instruction;
+            instruction_refused(i)
+        }
+    }
+}
+
+fn refused_in_w(w: StageW) -> bool
+    ensures { λ r. ⌜ r ≡ refusedInW w ⌝ }
+{
+    match w {
+        StageW::BubbleW => false,
+        StageW::InW(x) => {
+            let i = x.instruction;
+            instruction_refused(i)
+        }
+    }
+}
+
+fn refused_kept(kept: Kept) -> bool
+    ensures { λ r. ⌜ r ≡ refusedKept kept ⌝ }
+{
+    match kept {
+        Kept::NoneKept => false,
+        Kept::LastKept(k) => {
+            let i = k.instruction;
+            instruction_refused(i)
+        }
+    }
+}
+
+// Retired or a kind's count above cycles.
+fn counts_refused(pipeline: Pipeline) -> bool
+    ensures { λ r. ⌜ r ≡ countsRefused pipeline ⌝ }
+{
+    let kinds = pipeline.kinds;
+    let cycles = pipeline.cycles;
+    (cycles < pipeline.retired)
+        | ((cycles < kinds.loaduse) | ((cycles < kinds.mispredict) | (cycles < kinds.returned)))
+}
+
+fn record_refused(pipeline: Pipeline) -> bool
+    ensures { λ r. ⌜ r ≡ recordRefused pipeline ⌝ }
+{
+    let d = pipeline.d;
+    let e = pipeline.e;
+    let m = pipeline.m;
+    let w = pipeline.w;
+    let kept = pipeline.kept;
+    refused_in_d(d)
+        | (refused_in_e(e)
+            | (refused_in_m(m)
+                | (refused_in_w(w) | (refused_kept(kept) | counts_refused(pipeline)))))
+}
+
+// 0, or the number of the refusal; short says that a lent log is shorter than the budget.
+pub fn refusal(pipeline: Pipeline, size: usize, budget: u64, short: bool) -> u64
+    ensures { λ r. ⌜ r ≡ refusalBy short pipeline size budget ⌝ }
+{
+    if size_refused(size) {
+        return 1;
+    }
+    if budget_refused(262145, pipeline.cycles, budget) {
+        return 3;
+    }
+    if short {
+        return 4;
+    }
+    if record_refused(pipeline) {
+        return 5;
+    }
+    0
+}

@@ -1,0 +1,282 @@
+-- One law for each way out of a function, over variables for what its callees gave. Assumes nothing.
+use mathlib.Core.Path.{_≡_, refl}
+use mathlib.Core.Bool.{Bool, true, false, cond, not, _&&_, _||_, Bool·beq}
+use Prim.Native.Nat.{ℕ, _+_}
+use lib.Dec.{eqb, ltb}
+use borrow.Author.Tests.{eq-eqb, ne-eqb}
+use Rattle.stage.specs.Types.{Status, aok, Codes, Instruction, Decoded, Executed, Accessed, Retired, StageD, bubbleD, inD, StageE, bubbleE, inE, StageM, bubbleM, inM, StageW, bubbleW, inW, Kept, noneKept, lastKept, Kinds}
+use Rattle.machine.specs.Types.{isBad}
+use Rattle.machine.specs.Memory.{Memory, Registers, value}
+use Rattle.machine.specs.Table.{is}
+use Rattle.machine.specs.Stages.{decode, execute, access, newCodes, newMemory, newRegisters, sourceA, sourceB, resultTarget, loadedTarget, turned, straight}
+use Rattle.machine.specs.Prediction.{asIn01, guess, predictedNext, mispredicted, meets, loadUse}
+use Rattle.machine.specs.Charges.{Reason, free, waited, wronglyGuessed, returned, amount, reasonBehind, reasonFrom, counted, retiredOf}
+use Rattle.machine.specs.Pipeline.{afterE, afterM, codesAfter, memoryAfter, registersAfter, waitsBehind, wrong, retInD, retInE, retInM, badInW, returnedTo, mended, lastAfter, retiredAfter, kindsAfter, keptAfter}
+use Rattle.stage.specs.declared.forwarding.Past.{Past}
+use Rattle.stage.specs.declared.retiring.Tally.{Tally}
+use Rattle.stage.specs.Forwarding.{pastE, pastW, pastBy, sourceBy, decodedBy}
+use Rattle.stage.specs.Retiring.{countedBy, keptBy, retires, statusAfter, tallyAfter}
+
+-- THE WORK OF A STAGE
+pub e-bubble : (e : StageE) (c : Codes) → e ≡ bubbleE → bubbleM ≡ afterE e c
+unfolding afterE
+e-bubble e c h = cc
+
+pub e-works : (e : StageE) (c : Codes) (x : Decoded) (y : Executed) → e ≡ inE x → y ≡ execute x c → inM y ≡ afterE e c
+unfolding afterE
+e-works e c x y h p = cc
+
+pub m-bubble : (s : StageM) (m : Memory) → s ≡ bubbleM → bubbleW ≡ afterM s m
+unfolding afterM
+m-bubble s m h = cc
+
+pub m-works : (s : StageM) (m : Memory) (x : Executed) (y : Accessed) → s ≡ inM x → y ≡ access x m → inW y ≡ afterM s m
+unfolding afterM
+m-works s m x y h p = cc
+
+pub codes-stay : (e : StageE) (c : Codes) → e ≡ bubbleE → c ≡ codesAfter e c
+unfolding codesAfter
+codes-stay e c h = cc
+
+pub codes-new : (e : StageE) (c d : Codes) (x : Decoded) → e ≡ inE x → d ≡ newCodes x c → d ≡ codesAfter e c
+unfolding codesAfter
+codes-new e c d x h p = cc
+
+pub memory-stays : (s : StageM) (m : Memory) → s ≡ bubbleM → m ≡ memoryAfter s m
+unfolding memoryAfter
+memory-stays s m h = cc
+
+pub memory-new : (s : StageM) (m m′ : Memory) (x : Executed) → s ≡ inM x → m′ ≡ newMemory x m → m′ ≡ memoryAfter s m
+unfolding memoryAfter
+memory-new s m m′ x h p = cc
+
+pub registers-stay : (w : StageW) (r : Registers) → w ≡ bubbleW → r ≡ registersAfter w r
+unfolding registersAfter
+registers-stay w r h = cc
+
+pub registers-new : (w : StageW) (r r′ : Registers) (x : Accessed) → w ≡ inW x → r′ ≡ newRegisters x r → r′ ≡ registersAfter w r
+unfolding registersAfter
+registers-new w r r′ x h p = cc
+
+-- SIGNALS
+pub meets-is : (t q : ℕ) → ltb q 15 && eqb t q ≡ meets t q
+unfolding meets
+meets-is t q = refl
+
+pub load-use : (i j : Instruction) (t a b : ℕ) (x y : Bool) → t ≡ loadedTarget i → a ≡ sourceA j → x ≡ meets t a → b ≡ sourceB j → y ≡ meets t b → (x || y) ≡ loadUse asIn01 i j
+unfolding loadUse
+load-use i j t a b x y p q u v w = cc
+
+pub no-e : (e : StageE) (d : StageD) → e ≡ bubbleE → false ≡ waitsBehind asIn01 e d
+unfolding waitsBehind
+no-e e d h = cc
+
+pub no-d : (e : StageE) (d : StageD) (x : Decoded) → e ≡ inE x → d ≡ bubbleD → false ≡ waitsBehind asIn01 e d
+unfolding waitsBehind
+no-d e d x h k = cc
+
+pub d-behind-e : (e : StageE) (d : StageD) (x : Decoded) (j : Instruction) (b : Bool) → e ≡ inE x → d ≡ inD j → b ≡ loadUse asIn01 (x .instruction) j → b ≡ waitsBehind asIn01 e d
+unfolding waitsBehind
+d-behind-e e d x j b h k p = cc
+
+pub guessed : (i : Instruction) (h : Bool) → eqb (i .code) 7 && not h ≡ mispredicted asIn01 i h
+unfolding mispredicted guess is
+guessed i true = refl
+guessed i false = refl
+
+pub none-wrong : (s : StageM) → s ≡ bubbleM → false ≡ wrong asIn01 s
+unfolding wrong
+none-wrong s h = cc
+
+pub wrong-in : (s : StageM) (x : Executed) (b : Bool) → s ≡ inM x → b ≡ mispredicted asIn01 (x .instruction) (x .holds) → b ≡ wrong asIn01 s
+unfolding wrong
+wrong-in s x b h p = cc
+
+pub no-ret-d : (d : StageD) → d ≡ bubbleD → false ≡ retInD d
+unfolding retInD
+no-ret-d d h = cc
+
+pub ret-d : (d : StageD) (i : Instruction) → d ≡ inD i → eqb (i .code) 9 ≡ retInD d
+unfolding retInD is
+ret-d d i h = cc
+
+pub no-ret-e : (e : StageE) → e ≡ bubbleE → false ≡ retInE e
+unfolding retInE
+no-ret-e e h = cc
+
+pub ret-e : (e : StageE) (x : Decoded) → e ≡ inE x → eqb (x .instruction .code) 9 ≡ retInE e
+unfolding retInE is
+ret-e e x h = cc
+
+pub no-ret-m : (s : StageM) → s ≡ bubbleM → false ≡ retInM s
+unfolding retInM
+no-ret-m s h = cc
+
+pub ret-m : (s : StageM) (x : Executed) → s ≡ inM x → eqb (x .instruction .code) 9 ≡ retInM s
+unfolding retInM is
+ret-m s x h = cc
+
+pub any-ret : (d : StageD) (e : StageE) (s : StageM) (x y z : Bool) → x ≡ retInD d → y ≡ retInE e → z ≡ retInM s → (x || (y || z)) ≡ (retInD d || (retInE e || retInM s))
+any-ret d e s x y z p q u = cc
+
+pub none-bad : (w : StageW) → w ≡ bubbleW → false ≡ badInW w
+unfolding badInW
+none-bad w h = cc
+
+pub bad-in : (w : StageW) (x : Accessed) (b : Bool) → w ≡ inW x → b ≡ isBad (x .status) → b ≡ badInW w
+unfolding badInW
+bad-in w x b h p = cc
+
+-- SOURCES
+pub nothing-past-e : (s : StageM) → s ≡ bubbleM → record { target = 15; result = 0; loaded = 15; word = 0 } ≡ pastE s
+unfolding pastE
+nothing-past-e s h = cc
+
+pub past-e : (s : StageM) (x : Executed) (t : ℕ) → s ≡ inM x → t ≡ resultTarget (x .instruction) (x .holds) → record { target = t; result = x .result; loaded = 15; word = 0 } ≡ pastE s
+unfolding pastE
+past-e s x t h p = cc
+
+pub nothing-past-w : (w : StageW) → w ≡ bubbleW → record { target = 15; result = 0; loaded = 15; word = 0 } ≡ pastW w
+unfolding pastW
+nothing-past-w w h = cc
+
+pub past-w : (w : StageW) (x : Accessed) (t l : ℕ) → w ≡ inW x → t ≡ resultTarget (x .instruction) (x .holds) → l ≡ loadedTarget (x .instruction) → record { target = t; result = x .result; loaded = l; word = x .word } ≡ pastW w
+unfolding pastW
+past-w w x t l h p q = cc
+
+pub by-word : (p : Past) (q v : ℕ) (b : Bool) → b ≡ meets (p .loaded) q → b ≡ true → p .word ≡ pastBy p q v
+unfolding pastBy
+by-word p q v b e h = cc
+
+pub by-result : (p : Past) (q v : ℕ) (b c : Bool) → b ≡ meets (p .loaded) q → b ≡ false → c ≡ meets (p .target) q → c ≡ true → p .result ≡ pastBy p q v
+unfolding pastBy
+by-result p q v b c e h f k = cc
+
+pub from-behind : (p : Past) (q v : ℕ) (b c : Bool) → b ≡ meets (p .loaded) q → b ≡ false → c ≡ meets (p .target) q → c ≡ false → v ≡ pastBy p q v
+unfolding pastBy
+from-behind p q v b c e h f k = cc
+
+pub in-order : (e m w : Past) (r : Registers) (q v x y z : ℕ) → v ≡ value r q → x ≡ pastBy w q v → y ≡ pastBy m q x → z ≡ pastBy e q y → z ≡ sourceBy e m w r q
+unfolding sourceBy
+in-order e m w r q v x y z f g h k = cc
+
+pub no-decode : (e m w : Past) (r : Registers) (d : StageD) → d ≡ bubbleD → bubbleE ≡ decodedBy e m w r d
+unfolding decodedBy
+no-decode e m w r d h = cc
+
+pub decodes : (e m w : Past) (r : Registers) (d : StageD) (i : Instruction) (p q a b : ℕ) → d ≡ inD i → p ≡ sourceA i → a ≡ sourceBy e m w r p → q ≡ sourceB i → b ≡ sourceBy e m w r q
+    → inE (record { instruction = i; a = a; b = b }) ≡ decodedBy e m w r d
+unfolding decodedBy decode
+decodes e m w r d i p q a b h f g k l = cc
+
+-- ADDRESSES
+pub no-w : (w : StageW) (f : ℕ) → w ≡ bubbleW → f ≡ returnedTo w f
+unfolding returnedTo
+no-w w f h = cc
+
+pub back-to : (w : StageW) (f : ℕ) (x : Accessed) → w ≡ inW x → x .instruction .code ≡ 9 → x .word ≡ returnedTo w f
+unfolding returnedTo is
+back-to w f x h k = cc (eq-eqb (x .instruction .code) 9 k)
+
+pub no-return : (w : StageW) (f : ℕ) (x : Accessed) → w ≡ inW x → (x .instruction .code ≡ 9 → ⊥) → f ≡ returnedTo w f
+unfolding returnedTo is
+no-return w f x h k = cc (ne-eqb (x .instruction .code) 9 k)
+
+pub no-m : (s : StageM) (f : ℕ) → s ≡ bubbleM → f ≡ mended asIn01 s f
+unfolding mended
+no-m s f h = cc
+
+pub mends : (s : StageM) (f v : ℕ) (x : Executed) (b : Bool) → s ≡ inM x → b ≡ mispredicted asIn01 (x .instruction) (x .holds) → b ≡ true → v ≡ turned (x .instruction) (x .holds) → v ≡ mended asIn01 s f
+unfolding mended
+mends s f v x b h e t p = cc
+
+pub no-mend : (s : StageM) (f : ℕ) (x : Executed) (b : Bool) → s ≡ inM x → b ≡ mispredicted asIn01 (x .instruction) (x .holds) → b ≡ false → f ≡ mended asIn01 s f
+unfolding mended
+no-mend s f x b h e t = cc
+
+pub fetch-from : (s : StageM) (w : StageW) (f a b : ℕ) → a ≡ returnedTo w f → b ≡ mended asIn01 s a → b ≡ mended asIn01 s (returnedTo w f)
+fetch-from s w f a b p q = cc
+
+pub jump-next : (i : Instruction) (v : ℕ) → i .code ≡ 7 → v ≡ turned i true → v ≡ predictedNext asIn01 i
+unfolding predictedNext is guess
+jump-next i v h p = cc (eq-eqb (i .code) 7 h)
+
+pub straight-next : (i : Instruction) (v : ℕ) → (i .code ≡ 7 → ⊥) → v ≡ straight i → v ≡ predictedNext asIn01 i
+unfolding predictedNext is
+straight-next i v h p = cc (ne-eqb (i .code) 7 h)
+
+-- RETIREMENT
+pub loaded-before : (k : Retired) (j : Instruction) (b : Bool) → b ≡ loadUse asIn01 (k .instruction) j → b ≡ true → 1 ≡ amount (reasonBehind asIn01 k j)
+unfolding reasonBehind amount
+loaded-before k j b e h = cc
+
+pub jumped-before : (k : Retired) (j : Instruction) (b c : Bool) → b ≡ loadUse asIn01 (k .instruction) j → b ≡ false → c ≡ mispredicted asIn01 (k .instruction) (k .holds)
+    → c && not (eqb (k .instruction .function) 0) ≡ true → 2 ≡ amount (reasonBehind asIn01 k j)
+unfolding reasonBehind amount
+jumped-before k j b c e h f t = cc
+
+pub returned-before : (k : Retired) (j : Instruction) (b c : Bool) → b ≡ loadUse asIn01 (k .instruction) j → b ≡ false → c ≡ mispredicted asIn01 (k .instruction) (k .holds)
+    → c && not (eqb (k .instruction .function) 0) ≡ false → k .instruction .code ≡ 9 → 3 ≡ amount (reasonBehind asIn01 k j)
+unfolding reasonBehind amount is
+returned-before k j b c e h f t r = cc (eq-eqb (k .instruction .code) 9 r)
+
+pub nothing-before : (k : Retired) (j : Instruction) (b c : Bool) → b ≡ loadUse asIn01 (k .instruction) j → b ≡ false → c ≡ mispredicted asIn01 (k .instruction) (k .holds)
+    → c && not (eqb (k .instruction .function) 0) ≡ false → (k .instruction .code ≡ 9 → ⊥) → 0 ≡ amount (reasonBehind asIn01 k j)
+unfolding reasonBehind amount is
+nothing-before k j b c e h f t r = cc (ne-eqb (k .instruction .code) 9 r)
+
+pub uncharged : (k : Kept) (j : Instruction) → k ≡ noneKept → 0 ≡ amount (reasonFrom asIn01 k j)
+unfolding reasonFrom amount
+uncharged k j h = cc
+
+pub charged : (k : Kept) (j : Instruction) (x : Retired) (n : ℕ) → k ≡ lastKept x → n ≡ amount (reasonBehind asIn01 x j) → n ≡ amount (reasonFrom asIn01 k j)
+unfolding reasonFrom
+charged k j x n h p = cc
+
+pub keeps : (x : Accessed) (k : Kept) (b : Bool) → b ≡ isBad (x .status) → b ≡ true → k ≡ keptBy x k
+unfolding keptBy
+keeps x k b e h = cc
+
+pub kept-now : (x : Accessed) (k : Kept) (b : Bool) → b ≡ isBad (x .status) → b ≡ false → lastKept (record { instruction = x .instruction; holds = x .holds }) ≡ keptBy x k
+unfolding keptBy retiredOf
+kept-now x k b e h = cc
+
+-- an amount tells its reason
+counted-by : (t : Kinds) (r : Reason) → countedBy t (amount r) ≡ counted t r
+unfolding countedBy counted amount
+counted-by t free = refl
+counted-by t waited = refl
+counted-by t wronglyGuessed = refl
+counted-by t returned = refl
+
+pub only-a-cycle : (t : Tally) (w : StageW) → w ≡ bubbleW → record { last = t .last; retired = t .retired; cycles = t .cycles + 1; kinds = t .kinds; kept = t .kept } ≡ tallyAfter t w
+unfolding tallyAfter lastAfter retiredAfter kindsAfter keptAfter badInW
+only-a-cycle t w h = cc
+
+pub one-retired : (t : Tally) (w : StageW) (x : Accessed) (n : ℕ) (s : Kinds) (k : Kept) → w ≡ inW x → n ≡ amount (reasonFrom asIn01 (t .kept) (x .instruction)) → s ≡ countedBy (t .kinds) n → k ≡ keptBy x (t .kept)
+    → record { last = x .instruction .address; retired = t .retired + 1; cycles = t .cycles + 1; kinds = s; kept = k } ≡ tallyAfter t w
+unfolding tallyAfter lastAfter retiredAfter kindsAfter keptAfter badInW keptBy
+one-retired t w x n s k h p q u = cc (counted-by (t .kinds) (reasonFrom asIn01 (t .kept) (x .instruction)))
+
+pub none-retires : (w : StageW) → w ≡ bubbleW → false ≡ retires w
+unfolding retires
+none-retires w h = cc
+
+pub one-retires : (w : StageW) (x : Accessed) → w ≡ inW x → true ≡ retires w
+unfolding retires
+one-retires w x h = cc
+
+pub status-stays : (w : StageW) → w ≡ bubbleW → aok ≡ statusAfter w
+unfolding statusAfter
+status-stays w h = cc
+
+pub status-of-w : (w : StageW) (x : Accessed) → w ≡ inW x → x .status ≡ statusAfter w
+unfolding statusAfter
+status-of-w w x h = cc
+
+-- CONTROLS
+pub goes-on : {A : Type 0} (b : Bool) (x y v : A) → b ≡ false → v ≡ y → v ≡ cond b x y
+goes-on b x y v h p = cc
+
+pub enters-d : (m w r : Bool) (d : StageD) (i : Instruction) → m ≡ false → w ≡ false → r ≡ false → inD i ≡ cond m bubbleD (cond w d (cond r bubbleD (inD i)))
+enters-d m w r d i h k l = cc

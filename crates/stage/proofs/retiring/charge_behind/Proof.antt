@@ -1,0 +1,27 @@
+use Rattle.stage.proofs.Ways.{loaded-before, jumped-before, returned-before, nothing-before}
+use borrow.Author.Needs.{needs}
+use Rattle.stage.proofs.retiring.charge_behind.Statement.{statement}
+use Rattle.stage.proofs.retiring.charge_behind.Tie as tie
+
+load-use-requires : tie.Need-load-use-requires
+load-use-requires c κs = search needs
+
+returns : tie.Need-returns
+returns c = search (needs, loaded-before)
+
+mispredicted-requires : tie.Need-mispredicted-requires
+mispredicted-requires c κs = search needs
+
+returns-2 : tie.Need-returns-2
+returns-2 c = search (needs, jumped-before)
+
+returns-3 : tie.Need-returns-3
+returns-3 c = search (needs, returned-before)
+
+returns-4 : tie.Need-returns-4
+returns-4 c = search (needs, nothing-before)
+
+pub charge-behind-spec : {M : Type 1} → statement M
+charge-behind-spec =
+    tie.close
+    (tie.spec load-use-requires returns mispredicted-requires returns-2 returns-3 returns-4)

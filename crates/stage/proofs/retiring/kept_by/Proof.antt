@@ -1,0 +1,16 @@
+use Rattle.stage.proofs.Ways.{keeps, kept-now}
+use borrow.Author.Needs.{needs}
+use Rattle.stage.proofs.retiring.kept_by.Statement.{statement}
+use Rattle.stage.proofs.retiring.kept_by.Tie as tie
+
+is-bad-requires : tie.Need-is-bad-requires
+is-bad-requires c κs = search needs
+
+returns : tie.Need-returns
+returns c = search (needs, keeps)
+
+returns-2 : tie.Need-returns-2
+returns-2 c = search (needs, kept-now)
+
+pub kept-by-spec : {M : Type 1} → statement M
+kept-by-spec = tie.close (tie.spec is-bad-requires returns returns-2)

@@ -1,0 +1,3 @@
+pub mod Types
+pub mod Forwarding
+pub mod Retiring

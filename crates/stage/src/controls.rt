@@ -1,0 +1,67 @@
+// The controls at the end of a clock: each stage is held, given a bubble, or goes on.
+use crate::addresses::predicted_next;
+use crate::working::codes_after;
+use machine::Codes;
+use machine::Instruction;
+use machine::StageD;
+use machine::StageE;
+use machine::StageM;
+ghost use mathlib.Core.Path.{_≡_};
+ghost use mathlib.Core.Bool.{cond};
+ghost use Rattle.stage.specs.Types.{bubbleD, inD, bubbleE, bubbleM};
+ghost use Rattle.machine.specs.Prediction.{asIn01, predictedNext};
+ghost use Rattle.machine.specs.Pipeline.{codesAfter};
+
+// F is held for load-use and for ret.
+pub fn next_f(held: bool, predicted: u64, fetched: Instruction) -> u64
+    ensures { λ r. ⌜ r ≡ cond held predicted (predictedNext asIn01 fetched) ⌝ }
+{
+    if held {
+        predicted
+    } else {
+        predicted_next(fetched)
+    }
+}
+
+// Load-use holds D before ret can put a bubble there, so that a ret that waits is not lost.
+pub fn next_d(
+    mispredicts: bool,
+    waits: bool,
+    returns: bool,
+    d: StageD,
+    fetched: Instruction,
+) -> StageD
+    ensures { λ r. ⌜ r ≡ cond mispredicts bubbleD (cond waits d (cond returns bubbleD (inD fetched))) ⌝ }
+{
+    if mispredicts {
+        return StageD::BubbleD;
+    }
+    if waits {
+        return d;
+    }
+    if returns {
+        return StageD::BubbleD;
+    }
+    StageD::InD(fetched)
+}
+
+// A bubble for misprediction and for load-use.
+pub fn next_e(bubbles: bool, decoded: StageE) -> StageE
+    ensures { λ r. ⌜ r ≡ cond bubbles bubbleE decoded ⌝ }
+{
+    if bubbles { StageE::BubbleE } else { decoded }
+}
+
+// A bubble behind a bad status in M.
+pub fn next_m(fails: bool, executed: StageM) -> StageM
+    ensures { λ r. ⌜ r ≡ cond fails bubbleM executed ⌝ }
+{
+    if fails { StageM::BubbleM } else { executed }
+}
+
+// OPq behind a bad status in M sets no codes.
+pub fn next_codes(fails: bool, e: StageE, codes: Codes) -> Codes
+    ensures { λ r. ⌜ r ≡ cond fails codes (codesAfter e codes) ⌝ }
+{
+    if fails { codes } else { codes_after(e, codes) }
+}

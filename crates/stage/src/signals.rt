@@ -1,0 +1,118 @@
+// The signals that the controls go by.
+use isa::decoding::is_bad;
+use isa::decoding::loaded_target;
+use isa::decoding::source_a;
+use isa::decoding::source_b;
+use machine::Instruction;
+use machine::StageD;
+use machine::StageE;
+use machine::StageM;
+use machine::StageW;
+ghost use mathlib.Core.Path.{_≡_};
+ghost use mathlib.Core.Bool.{_||_};
+ghost use Rattle.machine.specs.Prediction.{asIn01, meets as meetsOf, mispredicted as mispredictedOf, loadUse};
+ghost use Rattle.machine.specs.Pipeline.{waitsBehind, wrong as wrongOf, retInD, retInE, retInM, badInW};
+
+// Register 15 as a source matches nothing.
+pub fn meets(target: u8, source: u8) -> bool
+    ensures { λ r. ⌜ r ≡ meetsOf target source ⌝ }
+{
+    (source < 15) & (target == source)
+}
+
+// The first instruction loads a register among the second's sources.
+pub fn load_use(i: Instruction, j: Instruction) -> bool
+    ensures { λ r. ⌜ r ≡ loadUse asIn01 i j ⌝ }
+{
+    let target = loaded_target(i);
+    meets(target, source_a(j)) | meets(target, source_b(j))
+}
+
+// Load-use: D waits behind E.
+pub fn waits_behind(e: StageE, d: StageD) -> bool
+    ensures { λ r. ⌜ r ≡ waitsBehind asIn01 e d ⌝ }
+{
+    match e {
+        StageE::BubbleE => false,
+        StageE::InE(x) => match d {
+            StageD::BubbleD => false,
+            StageD::InD(j) => {
+                let i = x.instruction;
+                load_use(i, j)
+            }
+        },
+    }
+}
+
+// Every jump is guessed taken, so a false condition is a misprediction.
+pub fn mispredicted(i: Instruction, holds: bool) -> bool
+    ensures { λ r. ⌜ r ≡ mispredictedOf asIn01 i holds ⌝ }
+{
+    (i.code == 7) & !holds
+}
+
+// An executed jump that was guessed wrongly.
+pub fn wrong(m: StageM) -> bool
+    ensures { λ r. ⌜ r ≡ wrongOf asIn01 m ⌝ }
+{
+    match m {
+        StageM::BubbleM => false,
+        StageM::InM(x) => {
+            let i = x.instruction;
+            mispredicted(i, x.holds)
+        }
+    }
+}
+
+fn ret_in_d(d: StageD) -> bool
+    ensures { λ r. ⌜ r ≡ retInD d ⌝ }
+{
+    match d {
+        StageD::BubbleD => false,
+        StageD::InD(i) => i.code == 9,
+    }
+}
+
+fn ret_in_e(e: StageE) -> bool
+    ensures { λ r. ⌜ r ≡ retInE e ⌝ }
+{
+    match e {
+        StageE::BubbleE => false,
+        StageE::InE(x) => {
+            let i = x.instruction;
+            i.code == 9
+        }
+    }
+}
+
+fn ret_in_m(m: StageM) -> bool
+    ensures { λ r. ⌜ r ≡ retInM m ⌝ }
+{
+    match m {
+        StageM::BubbleM => false,
+        StageM::InM(x) => {
+            let i = x.instruction;
+            i.code == 9
+        }
+    }
+}
+
+// ret in D, E or M.
+pub fn ret_on_the_way(d: StageD, e: StageE, m: StageM) -> bool
+    ensures { λ r. ⌜ r ≡ (retInD d || (retInE e || retInM m)) ⌝ }
+{
+    ret_in_d(d) | (ret_in_e(e) | ret_in_m(m))
+}
+
+// Bad status in W, or in M after its access.
+pub fn bad_in_w(w: StageW) -> bool
+    ensures { λ r. ⌜ r ≡ badInW w ⌝ }
+{
+    match w {
+        StageW::BubbleW => false,
+        StageW::InW(x) => {
+            let status = x.status;
+            is_bad(status)
+        }
+    }
+}

@@ -1,0 +1,60 @@
+// The work of E, M and W in a clock.
+use isa::accessing::access;
+use isa::accessing::update;
+use isa::decoding::write_back;
+use isa::executing::execute;
+use isa::executing::new_codes;
+use machine::Codes;
+use machine::StageE;
+use machine::StageM;
+use machine::StageW;
+ghost use mathlib.Core.Path.{_≡_};
+ghost use Rattle.machine.specs.Pipeline.{afterE, afterM, codesAfter, memoryAfter, registersAfter};
+
+// E's instruction after execution, on the codes as the clock began.
+pub fn after_e(e: StageE, codes: Codes) -> StageM
+    ensures { λ r. ⌜ r ≡ afterE e codes ⌝ }
+{
+    match e {
+        StageE::BubbleE => StageM::BubbleM,
+        StageE::InE(x) => StageM::InM(execute(x, codes)),
+    }
+}
+
+// M's instruction after its access, which reads memory before the clock's write.
+pub fn after_m(m: StageM, memory: &[u8]) -> StageW
+    ensures { λ r. ⌜ r ≡ afterM m (now (memory .entry)) ⌝ }
+{
+    match m {
+        StageM::BubbleM => StageW::BubbleW,
+        StageM::InM(x) => StageW::InW(access(x, memory)),
+    }
+}
+
+pub fn codes_after(e: StageE, codes: Codes) -> Codes
+    ensures { λ r. ⌜ r ≡ codesAfter e codes ⌝ }
+{
+    match e {
+        StageE::BubbleE => codes,
+        StageE::InE(x) => new_codes(x, codes),
+    }
+}
+
+// The clock's write.
+pub fn memory_after(m: StageM, memory: &mut [u8])
+    ensures { λ _. ⌜ now (memory .exit) ≡ memoryAfter m (now (memory .entry)) ⌝ }
+{
+    match m {
+        StageM::BubbleM => {}
+        StageM::InM(x) => update(x, memory),
+    }
+}
+
+pub fn registers_after(w: StageW, registers: &mut [u64; 15])
+    ensures { λ _. ⌜ now (registers .exit) ≡ registersAfter w (now (registers .entry)) ⌝ }
+{
+    match w {
+        StageW::BubbleW => {}
+        StageW::InW(x) => write_back(x, registers),
+    }
+}
