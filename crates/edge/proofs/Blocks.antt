@@ -60,9 +60,9 @@ reads-more b words k v h lt room got =
     let z : 0 + 8 * k ≡ 8 * k = omega arith in
     record {
       so-far =
-        ap (λ (x : ℕ). take x (set words k v)) (add-one k)
-        ∙ (take-suc-set words k v (omega (arith, h .long))
-        ∙ (ap (λ (l : List ℕ). l ++ v ∷ []) (h .so-far) ∙ (ap (λ (x : ℕ). wordsIn k b 0 ++ x ∷ []) (e ∙ ap (number 8 b) (sym z)) ∙ (sym (words-more k b 0) ∙ ap (λ (x : ℕ). wordsIn x b 0) (sym (add-one k))))));
+          ap (λ (x : ℕ). take x (set words k v)) (add-one k)
+          ∙ (take-suc-set words k v (omega (arith, h .long))
+          ∙ (ap (λ (l : List ℕ). l ++ v ∷ []) (h .so-far) ∙ (ap (λ (x : ℕ). wordsIn k b 0 ++ x ∷ []) (e ∙ ap (number 8 b) (sym z)) ∙ (sym (words-more k b 0) ∙ ap (λ (x : ℕ). wordsIn x b 0) (sym (add-one k))))));
       long = length-set words k v ∙ h .long;
       within = omega arith;
     }
@@ -91,10 +91,10 @@ writes-more b₀ words b b′ k h lt room put =
     let z : 8 * k ≡ 0 + 8 * length (take k words) = omega arith in
     record {
       so-far =
-        e
-        ∙ (ap (λ (x : List ℕ). placed 8 x (8 * k) (getD words k 0)) (h .so-far)
-        ∙ (ap (λ (x : ℕ). placed 8 (withWords (take k words) b₀ 0) x (getD words k 0)) z
-        ∙ (sym (with-more (take k words) (getD words k 0) b₀ 0) ∙ ap (λ (l : List ℕ). withWords l b₀ 0) (sym (take-suc words k 0 lt) ∙ ap (λ (x : ℕ). take x words) (sym (add-one k))))));
+          e
+          ∙ (ap (λ (x : List ℕ). placed 8 x (8 * k) (getD words k 0)) (h .so-far)
+          ∙ (ap (λ (x : ℕ). placed 8 (withWords (take k words) b₀ 0) x (getD words k 0)) z
+          ∙ (sym (with-more (take k words) (getD words k 0) b₀ 0) ∙ ap (λ (l : List ℕ). withWords l b₀ 0) (sym (take-suc words k 0 lt) ∙ ap (λ (x : ℕ). take x words) (sym (add-one k))))));
       within = omega arith;
     }
 

@@ -1,20 +1,19 @@
 -- One law for each way out of a function, over variables for what its callees gave. Assumes nothing.
-use mathlib.Core.Path.{_≡_, refl, ap, sym, _∙_}
+use mathlib.Core.Path.{_≡_, refl, sym, _∙_}
 use mathlib.Core.Bool.{Bool, true, false, cond, not}
 use mathlib.Core.List.{List, [], _∷_}
 use Prim.Native.Nat.{ℕ, suc, _+_, _*_, _<_}
 use native.Mathlib.Omega.{arith}
 use borrow.Author.Tests.{eq-eqb, ne-eqb, lt-ltb, le-ltb, eqb-true, not-false}
-use lib.Dec.{eqb, ltb}
+use lib.Dec.{eqb}
 use lib.ListN.{length}
 use Rattle.machine.specs.declared.Codes.{Codes}
 use Rattle.machine.specs.declared.Pipeline.{Pipeline}
 use Rattle.machine.specs.Types.{statusNumber, codesNumber}
-use Rattle.machine.specs.Memory.{Memory}
 use Rattle.machine.specs.Prediction.{asIn01}
 use Rattle.machine.specs.Pipeline.{pipeStart}
-use Rattle.machine.specs.Runs.{sizeRefused, budgetRefused, lowest, pipeLimit, PipeAnswer, pipeAnswer, pipeRunUnlogged}
-use Rattle.edge.specs.Edge.{wordsIn, withWords, codesFrom, edgeRefusal, resultWords, Edge, edge, edgeDone, edgeRun, replayed}
+use Rattle.machine.specs.Runs.{sizeRefused, budgetRefused, lowest, pipeLimit, pipeAnswer, pipeRunUnlogged}
+use Rattle.edge.specs.Edge.{wordsIn, withWords, codesFrom, edgeRefusal, resultWords, edge, edgeDone, edgeRun, replayed}
 
 -- RESULT WORDS
 pub codes-is : (c : Codes) (z s o : ℕ) → z ≡ cond (c .zf) 1 0 → s ≡ cond (c .sf) 1 0 → o ≡ cond (c .of) 1 0 → 4 * z + 2 * s + o ≡ codesNumber c

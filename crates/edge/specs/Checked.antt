@@ -1,13 +1,12 @@
 -- What a caller of the host edge may rely on beside its equation. Assumes nothing.
-use mathlib.Core.Path.{_≡_, refl, sym, ap, _∙_}
+use mathlib.Core.Path.{_≡_, refl}
 use mathlib.Core.Bool.{Bool, true, false, cond, not}
-use mathlib.Core.List.{List, [], _∷_}
+use mathlib.Core.List.{List}
 use Prim.Native.Nat.{ℕ, zero, suc, _<_}
 use native.Mathlib.Omega.{arith}
-use lib.Dec.{eqb, ltb}
+use lib.Dec.{eqb}
 use lib.ListN.{length}
 use Rattle.machine.specs.Types.{codesNumber}
-use Rattle.machine.specs.Memory.{Memory}
 use Rattle.machine.specs.Charges.{noKinds}
 use Rattle.machine.specs.Pipeline.{pipeStart}
 use Rattle.machine.specs.Runs.{sizeRefused, budgetRefused, logRefused, recordRefused, countsRefused, refusedInD, refusedInE, refusedInM, refusedInW, refusedKept, lowest, pipeLimit, pipeRefusal, pipeDone, pipeBy, pipeRunUnlogged}

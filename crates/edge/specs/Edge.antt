@@ -1,6 +1,6 @@
 -- The host edge: "It lends memory, registers, result; it gives start address, codes as 4ZF + 2SF + OF, and cycle budget."
 use Prim.Native.Nat.{ℕ, zero, suc, _+_, _/_, _%_}
-use mathlib.Core.Bool.{Bool, cond, not}
+use mathlib.Core.Bool.{cond, not}
 use mathlib.Core.List.{List, [], _∷_}
 use lib.Dec.{eqb, ltb}
 use lib.ListN.{length}

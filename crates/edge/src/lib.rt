@@ -1,5 +1,7 @@
 // The host edge: one exported function on byte slices and numbers.
-use machine::{Codes, Pipeline, Status};
+use machine::Codes;
+use machine::Pipeline;
+use machine::Status;
 ghost use mathlib.Core.Path.{_≡_};
 ghost use mathlib.Core.Bool.{cond};
 ghost use Prim.Native.Nat.{_+_, _*_, _≤_, _<_};
@@ -73,7 +75,13 @@ fn write_result(result: &mut [u8], end: Pipeline)
 {
     let status = end.status;
     let codes = end.codes;
-    let words = [status_number(status), end.last, codes_number(codes), end.retired, end.cycles];
+    let words = [
+        status_number(status),
+        end.last,
+        codes_number(codes),
+        end.retired,
+        end.cycles,
+    ];
     write_words(result, &words);
 }
 
@@ -109,7 +117,14 @@ fn refusal(memory: usize, registers: usize, result: usize, codes: u64, budget: u
 
 // One pipelined run without logs from a fresh start.
 #[no_mangle]
-pub extern "C" fn y86_replay(memory: &mut [u8], registers: &mut [u8], result: &mut [u8], start: u64, codes: u64, budget: u64) -> u64
+pub extern "C" fn y86_replay(
+    memory: &mut [u8],
+    registers: &mut [u8],
+    result: &mut [u8],
+    start: u64,
+    codes: u64,
+    budget: u64,
+) -> u64
     ensures { λ r. ⌜ edge r (now (memory .exit)) (now (registers .exit)) (now (result .exit)) ≡ replayed (now (memory .entry)) (now (registers .entry)) (now (result .entry)) start codes budget ⌝ }
 {
     let number = refusal(memory.len(), registers.len(), result.len(), codes, budget);

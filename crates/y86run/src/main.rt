@@ -1,6 +1,10 @@
 // Replays a raw image from standard input: registers 0, codes ZF=1, start 0, budget 4,000 cycles.
-use libc::{STDIN_FILENO, STDOUT_FILENO};
-use machine::{Codes, Kinds, Pipeline, Status};
+use libc::STDIN_FILENO;
+use libc::STDOUT_FILENO;
+use machine::Codes;
+use machine::Kinds;
+use machine::Pipeline;
+use machine::Status;
 ghost use Prim.Native.Nat.{_<_};
 
 // The registers' names, three bytes each.

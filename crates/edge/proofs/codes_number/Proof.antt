@@ -2,39 +2,28 @@ use Rattle.edge.proofs.Ways.{codes-is}
 use borrow.Author.Needs.{needs}
 use Rattle.edge.proofs.codes_number.Statement.{statement}
 use Rattle.edge.proofs.codes_number.Tie as tie
-use Rattle.edge.proofs.codes_number.Reads as reads
-use Rattle.edge.proofs.codes_number.Lts as lts
-use Rattle.edge.proofs.bit.Reads as bit-reads
 
--- src/lib.rt:55:9
 bit-requires : tie.Need-bit-requires
 bit-requires c κs = search needs
 
--- src/lib.rt:55:5
 mul-result : tie.Need-mul-result
 mul-result c = search needs
 
--- src/lib.rt:55:25
 bit-requires-2 : tie.Need-bit-requires-2
 bit-requires-2 c κs = search needs
 
--- src/lib.rt:55:21
 mul-result-2 : tie.Need-mul-result-2
 mul-result-2 c = search needs
 
--- src/lib.rt:55:5
 add-result : tie.Need-add-result
 add-result c = search needs
 
--- src/lib.rt:55:37
 bit-requires-3 : tie.Need-bit-requires-3
 bit-requires-3 c κs = search needs
 
--- src/lib.rt:55:5
 add-result-2 : tie.Need-add-result-2
 add-result-2 c = search needs
 
--- src/lib.rt:52:1
 returns : tie.Need-returns
 returns c = codes-is _ _ _ _ (c .before .before .bit .ensures .0) (c .before .bit2 .ensures .0) (c .bit3 .ensures .0)
 

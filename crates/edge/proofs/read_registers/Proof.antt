@@ -5,9 +5,6 @@ use Rattle.edge.proofs.Blocks.{Reads, reads-first, reads-more, reads-al
 use Prim.Native.Nat.{_-_}
 use Rattle.edge.proofs.read_registers.Statement.{statement}
 use Rattle.edge.proofs.read_registers.Tie as tie
-use Rattle.edge.proofs.read_registers.Reads as reads
-use Rattle.edge.proofs.read_registers.Lts as lts
-use Rattle.word.proofs.load.Reads as load-reads
 
 abbrev Inv-loop : tie.InvT-loop
 Inv-loop block words₀ k₀ words k = Reads block words k
@@ -15,39 +12,30 @@ Inv-loop block words₀ k₀ words k = Reads block words k
 abbrev μ-loop : tie.MeasureT-loop
 μ-loop block words₀ k₀ words k = 15 - k
 
--- src/lib.rt:17:5
 loop-holds : tie.Need-loop-holds Inv-loop μ-loop
 loop-holds c = reads-first _ _ refl
 
--- src/lib.rt:18:39
 mul-load : tie.Need-mul-load Inv-loop μ-loop
 mul-load c = omega arith
 
--- src/lib.rt:18:20
 load-requires : tie.Need-load-requires Inv-loop μ-loop
 load-requires c κs = search needs
 
--- src/lib.rt:18:9
 mul-words : tie.Need-mul-words Inv-loop μ-loop
 mul-words c = omega arith
 
--- src/lib.rt:18:9
 array-write-words : tie.Need-array-write-words Inv-loop μ-loop
 array-write-words c = omega arith
 
--- src/lib.rt:19:9
 add-k : tie.Need-add-k Inv-loop μ-loop
 add-k c = omega arith
 
--- src/lib.rt:17:5
 loop-less : tie.Need-loop-less Inv-loop μ-loop
 loop-less c = omega arith
 
--- src/lib.rt:17:5
 loop-again : tie.Need-loop-again Inv-loop μ-loop
 loop-again c = reads-more _ _ _ _ (c .before .before .loop .inv) (c .before .loop-test .taken) (c .before .before .before .before .pre) (c .load .ensures)
 
--- src/lib.rt:11:1
 returns : tie.Need-returns Inv-loop μ-loop
 returns c = reads-all _ _ _ (c .before .loop .inv) (c .loop-test .left)
 

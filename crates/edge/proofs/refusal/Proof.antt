@@ -3,40 +3,28 @@ use Rattle.edge.proofs.Ways.{refused-1, refused-2, refused-3, refused-4
 use borrow.Author.Needs.{needs}
 use Rattle.edge.proofs.refusal.Statement.{statement}
 use Rattle.edge.proofs.refusal.Tie as tie
-use Rattle.edge.proofs.refusal.Reads as reads
-use Rattle.edge.proofs.refusal.Lts as lts
-use Rattle.limits.proofs.budget_refused.Reads as budget-refused-reads
-use Rattle.limits.proofs.size_refused.Reads as size-refused-reads
 
--- src/lib.rt:92:8
 size-refused-requires : tie.Need-size-refused-requires
 size-refused-requires c κs = search needs
 
--- src/lib.rt:93:9
 returns : tie.Need-returns
 returns c = search (needs, refused-1)
 
--- src/lib.rt:96:9
 returns-2 : tie.Need-returns-2
 returns-2 c = search (needs, refused-2)
 
--- src/lib.rt:98:8
 budget-refused-requires : tie.Need-budget-refused-requires
 budget-refused-requires c κs = search needs
 
--- src/lib.rt:99:9
 returns-3 : tie.Need-returns-3
 returns-3 c = search (needs, refused-3)
 
--- src/lib.rt:102:9
 returns-4 : tie.Need-returns-4
 returns-4 c = search (needs, refused-4)
 
--- src/lib.rt:105:9
 returns-5 : tie.Need-returns-5
 returns-5 c = search (needs, refused-5)
 
--- src/lib.rt:89:1
 returns-6 : tie.Need-returns-6
 returns-6 c = refused-0 _ _ _ _ _ _ (c .before .before .before .before .before .before .size-refused .ensures) (c .before .before .before .before .before .if1 .left) _ (c .before .before .before .before .if2 .left) (c .before .before .before .budget-refused .ensures) (c .before .before .if3 .left) (c .before .if4 .left) (omega arith)
 

@@ -2,41 +2,31 @@ use Rattle.machine.specs.Types.{statusNumber}
 use borrow.Author.Needs.{needs}
 use Rattle.edge.proofs.status_number.Statement.{statement}
 use Rattle.edge.proofs.status_number.Tie as tie
-use Rattle.edge.proofs.status_number.Reads as reads
-use Rattle.edge.proofs.status_number.Lts as lts
 
--- src/lib.rt:62:24
 enum-told : tie.Need-enum-told
 enum-told c = search needs
 
--- src/lib.rt:63:24
 enum-told-2 : tie.Need-enum-told-2
 enum-told-2 c = search needs
 
--- src/lib.rt:64:24
 enum-told-3 : tie.Need-enum-told-3
 enum-told-3 c = search needs
 
--- src/lib.rt:65:24
 enum-told-4 : tie.Need-enum-told-4
 enum-told-4 c = search needs
 
--- src/lib.rt:58:1
 returns : tie.Need-returns
 unfolding statusNumber
 returns c = cc
 
--- src/lib.rt:58:1
 returns-2 : tie.Need-returns-2
 unfolding statusNumber
 returns-2 c = cc
 
--- src/lib.rt:58:1
 returns-3 : tie.Need-returns-3
 unfolding statusNumber
 returns-3 c = cc
 
--- src/lib.rt:58:1
 returns-4 : tie.Need-returns-4
 unfolding statusNumber
 returns-4 c = cc

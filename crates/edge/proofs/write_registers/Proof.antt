@@ -4,23 +4,16 @@ use mathlib.Core.Path.{_≡_}
 use borrow.Author.Needs.{needs}
 use Rattle.edge.proofs.write_registers.Statement.{statement}
 use Rattle.edge.proofs.write_registers.Tie as tie
-use Rattle.edge.proofs.write_registers.Reads as reads
-use Rattle.edge.proofs.write_registers.Lts as lts
-use Rattle.edge.proofs.write_words.Reads as write-words-reads
 
--- src/lib.rt:85:24
 slice-aggregate-write-words : tie.Need-slice-aggregate-write-words
 slice-aggregate-write-words c = search needs
 
--- src/lib.rt:85:5
 write-words-requires : tie.Need-write-words-requires
 write-words-requires c κs = let e : length (c .before .before .before .before .args .end .registers) ≡ 15 = search needs in omega arith
 
--- src/lib.rt:80:1
 same-length : tie.Need-same-length
 same-length c = search needs
 
--- src/lib.rt:80:1
 returns : tie.Need-returns
 returns c = search needs
 

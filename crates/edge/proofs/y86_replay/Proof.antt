@@ -2,61 +2,40 @@ use Rattle.edge.proofs.Ways.{allowed, refuses, replays}
 use borrow.Author.Needs.{needs}
 use Rattle.edge.proofs.y86_replay.Statement.{statement}
 use Rattle.edge.proofs.y86_replay.Tie as tie
-use Rattle.edge.proofs.y86_replay.Reads as reads
-use Rattle.edge.proofs.y86_replay.Lts as lts
-use Rattle.edge.proofs.codes_from.Reads as codes-from-reads
-use Rattle.edge.proofs.read_registers.Reads as read-registers-reads
-use Rattle.edge.proofs.refusal.Reads as refusal-reads
-use Rattle.edge.proofs.write_registers.Reads as write-registers-reads
-use Rattle.edge.proofs.write_result.Reads as write-result-reads
-use Rattle.pipe.proofs.run_unlogged.Reads as run-unlogged-reads
-use Rattle.pipe.proofs.start.Reads as start-reads
 
--- src/lib.rt:115:9
 refusal-requires : tie.Need-refusal-requires
 refusal-requires c κs = search needs
 
--- src/lib.rt:117:9
 returns : tie.Need-returns
 returns c = refuses _ _ _ _ _ _ _ (c .before .refusal .ensures) (c .if1 .taken)
 
--- src/lib.rt:119:29
 read-registers-requires : tie.Need-read-registers-requires
 read-registers-requires c κs = allowed _ _ _ _ _ _ (c .before .before .refusal .ensures) (c .before .if1 .left) .whole
 
--- src/lib.rt:119:56
 codes-from-requires : tie.Need-codes-from-requires
 codes-from-requires c κs = search needs
 
--- src/lib.rt:119:9
 start-requires : tie.Need-start-requires
 start-requires c κs = search needs
 
--- src/lib.rt:120:9
 run-unlogged-requires : tie.Need-run-unlogged-requires
 run-unlogged-requires c κs = search needs
 
--- src/lib.rt:122:5
 write-registers-requires : tie.Need-write-registers-requires
 write-registers-requires c κs = allowed _ _ _ _ _ _ (c .before .before .before .before .before .before .before .before .before .before .before .refusal .ensures) (c .before .before .before .before .before .before .before .before .before .before .if1 .left) .whole
 
--- src/lib.rt:123:5
 write-result-requires : tie.Need-write-result-requires
 write-result-requires c κs = allowed _ _ _ _ _ _ (c .before .before .before .before .before .before .before .before .before .before .before .before .before .before .before .refusal .ensures) (c .before .before .before .before .before .before .before .before .before .before .before .before .before .before .if1 .left) .room
 
--- src/lib.rt:111:1
 same-length : tie.Need-same-length
 same-length c = search needs
 
--- src/lib.rt:111:1
 same-length-2 : tie.Need-same-length-2
 same-length-2 c = search needs
 
--- src/lib.rt:111:1
 same-length-3 : tie.Need-same-length-3
 same-length-3 c = search needs
 
--- src/lib.rt:111:1
 returns-2 : tie.Need-returns-2
 returns-2 c = replays _ _ _ _ _ _ _ (c .before .before .before .before .before .before .before .before .before .before .before .before .before .before .before .before .before .before .refusal .ensures) _ _ _ _ _ _ _ _ (c .before .before .before .before .before .before .before .before .before .before .before .before .before .before .before .before .before .if1 .left) (c .before .before .before .before .before .before .before .before .before .before .before .before .before .before .before .read-registers .ensures) (c .before .before .before .before .before .before .before .before .before .before .before .before .before .before .codes-from .ensures) (c .before .before .before .before .before .before .before .before .before .before .before .before .before .start .ensures) (c .before .before .before .before .before .before .before .before .before .before .before .run-unlogged .ensures) (c .before .before .before .before .before .before .write-registers .ensures) (c .before .before .write-result .ensures)
 

@@ -5,9 +5,6 @@ use lib.ListN.{length}
 use mathlib.Core.Path.{_≡_}
 use Rattle.y86run.proofs.put_registers.Statement.{statement}
 use Rattle.y86run.proofs.put_registers.Tie as tie
-use Rattle.y86run.proofs.put_registers.Reads as reads
-use Rattle.y86run.proofs.put_registers.Lts as lts
-use Rattle.y86run.proofs.put_register.Reads as put-register-reads
 
 abbrev Inv-loop : tie.InvT-loop
 Inv-loop registers k₀ k = (k ≤ 15) × (length registers ≡ 15)
@@ -15,35 +12,27 @@ Inv-loop registers k₀ k = (k ≤ 15) × (length registers ≡ 15)
 abbrev μ-loop : tie.MeasureT-loop
 μ-loop registers k₀ k = 15 - k
 
--- src/main.rt:75:5
 loop-holds : tie.Need-loop-holds Inv-loop μ-loop
 loop-holds c = (omega arith, search needs)
 
--- src/main.rt:76:25
 mul-put-register : tie.Need-mul-put-register Inv-loop μ-loop
 mul-put-register c = omega arith
 
--- src/main.rt:76:25
 array-read-put-register : tie.Need-array-read-put-register Inv-loop μ-loop
 array-read-put-register c = omega arith
 
--- src/main.rt:76:9
 put-register-requires : tie.Need-put-register-requires Inv-loop μ-loop
 put-register-requires c κs = omega arith
 
--- src/main.rt:77:9
 add-k : tie.Need-add-k Inv-loop μ-loop
 add-k c = omega arith
 
--- src/main.rt:75:5
 loop-less : tie.Need-loop-less Inv-loop μ-loop
 loop-less c = omega arith
 
--- src/main.rt:75:5
 loop-again : tie.Need-loop-again Inv-loop μ-loop
 loop-again c = omega arith
 
--- src/main.rt:73:1
 returns : tie.Need-returns Inv-loop μ-loop
 returns c = search needs
 
