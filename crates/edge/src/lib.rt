@@ -97,13 +97,13 @@ fn write_registers(block: &mut [u8], end: Pipeline)
 fn refusal(memory: usize, registers: usize, result: usize, codes: u64, budget: u64) -> u64
     ensures { λ r. ⌜ r ≡ edgeRefusal memory registers result codes budget ⌝ }
 {
-    if limits::size_refused(memory) {
+    if answers::size_refused(memory) {
         return 1;
     }
     if registers != 120 {
         return 2;
     }
-    if limits::budget_refused(262145, 0, budget) {
+    if answers::budget_refused(262145, 0, budget) {
         return 3;
     }
     if result != 40 {

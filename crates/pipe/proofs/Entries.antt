@@ -8,10 +8,11 @@ use lib.Dec.{eqb, ltb}
 use lib.ListN.{length}
 use borrow.Author.Tests.{eq-eqb, ne-eqb, ltb-false}
 use Rattle.machine.specs.declared.Pipeline.{Pipeline}
+use Rattle.answers.specs.Logs.{laid-none}
 use Rattle.machine.specs.Memory.{Memory}
 use Rattle.machine.specs.Prediction.{asIn01}
 use Rattle.machine.specs.Pipeline.{pipedOf, clocks}
-use Rattle.machine.specs.Runs.{laid, sizeRefused, budgetRefused, logRefused, refusedInD, refusedInE, refusedInM, refusedInW, refusedKept, countsRefused, recordRefused, lowest, pipeLimit, pipeRefusal, PipeAnswer, pipeAnswer, pipeDone, pipeBy, pipeRun, pipeRunUnlogged, pipeClock}
+use Rattle.machine.specs.Runs.{sizeRefused, budgetRefused, logRefused, refusedInD, refusedInE, refusedInM, refusedInW, refusedKept, countsRefused, recordRefused, lowest, pipeLimit, pipeRefusal, PipeAnswer, pipeAnswer, pipeDone, pipeBy, pipeRun, pipeRunUnlogged, pipeClock}
 use Rattle.pipe.specs.Parts.{refusalBy, answerBy}
 use Rattle.pipe.proofs.Runs.{or-right}
 
@@ -57,11 +58,6 @@ pub with-logs : (k : Pipeline) (m : Memory) (budget : ℕ) (a y : List ℕ) (t :
     → t ≡ pipeRun asIn01 k m budget a y
 unfolding pipeRun logRefused
 with-logs k m budget a y t e = e ∙ by-logs (length a ∷ length y ∷ []) _ k m budget a y (or-none (ltb (length a) budget) (ltb (length y) budget))
-
-pub laid-none : (es : List ℕ) → laid es [] ≡ []
-unfolding laid
-laid-none [] = refl
-laid-none (e ∷ es) = refl
 
 -- a log with no places has none afterwards
 module _ (k : Pipeline) (m : Memory) (budget : ℕ) where

@@ -1,6 +1,6 @@
 -- "Running a then b cycles equals running a + b, logs joined, where none of the three is refused." A theorem of the definitions, at any
 -- settings: `joined`, at the end. Assumes nothing.
-use mathlib.Core.Path.{_≡_, refl, ap, sym, _∙_}
+use mathlib.Core.Path.{_≡_, refl, ap, _∙_}
 use mathlib.Core.Bool.{Bool, true, false, cond}
 use mathlib.Core.List.{List, [], _∷_, _++_, append-assoc, append-nil}
 use Prim.Native.Nat.{ℕ, zero, suc, _+_, _-_}
@@ -17,16 +17,9 @@ use Rattle.machine.specs.declared.StageW.the-variants.{BubbleW as bubbleW, InW 
 use Rattle.machine.specs.Types.{isBad}
 use Rattle.machine.specs.Memory.{Memory}
 use Rattle.machine.specs.Prediction.{Settings}
-use Rattle.machine.specs.Pipeline.{Piped, pipedOf, source, sourceM, sourceW, waits, mispredicts, returns, fails, fetchAddress, fetchedNow, nextF, nextD, nextE, nextM, nextCodes, decodedD, lastAfter, retiredAfter, logged, advanced, stoppedIn, clockBy, clock, clocks}
+use Rattle.machine.specs.Pipeline.{Piped, pipedOf, source, sourceM, sourceW, waits, mispredicts, returns, fails, fetchAddress, fetchedNow, nextF, nextD, nextE, nextM, nextCodes, decodedD, retiredAfter, logged, advanced, stoppedIn, clockBy, clock, clocks}
 use Rattle.machine.specs.Runs.{laid, pipeRefusal, PipeAnswer, pipeAnswer, pipeDone, pipeBy, pipeRun}
-use Rattle.pipe.proofs.Entries.{laid-none}
-
--- LOGS
-laid-join : (es fs log : List ℕ) → laid (es ++ fs) log ≡ take (length es) (laid es log) ++ laid fs (drop (length es) (laid es log))
-unfolding laid
-laid-join [] fs log = refl
-laid-join (e ∷ es) fs [] = sym (laid-none fs)
-laid-join (e ∷ es) fs (x ∷ log) = ap (λ (l : List ℕ). e ∷ l) (laid-join es fs log)
+use Rattle.answers.specs.Logs.{laid-joined}
 
 -- with entries before those of p
 before : List ℕ → List ℕ → Piped → Piped
@@ -142,7 +135,7 @@ module _ (g : Settings) where
       → b ≡ pipeAnswer 0 (h .pipeline) (h .memory) (take n (f .addresses) ++ h .addresses) (take n (f .cycles) ++ h .cycles)
   unfolding pipeDone before
   from-states s r n log times f h b fa fy ea ey eh eb =
-      rw (eb, eh) (cc (laid-join (s .addresses) (r .addresses) log, laid-join (s .cycles) (r .cycles) times))
+      rw (eb, eh) (cc (laid-joined (s .addresses) (r .addresses) log, laid-joined (s .cycles) (r .cycles) times))
 
   -- the first run, its retirements, the second run, from where the first one left it and with the places that it left in the logs, and
   -- the run of both budgets

@@ -1,13 +1,13 @@
 -- What holds while a run goes on, from its first clock to its end. Assumes nothing.
 use mathlib.Core.Path.{_≡_, refl, ap, sym, _∙_}
-use mathlib.Core.Bool.{Bool, true, false, cond, _||_}
-use mathlib.Core.List.{List, [], _∷_, _++_, append-nil}
+use mathlib.Core.Bool.{Bool, true, false, _||_}
+use mathlib.Core.List.{List, [], _++_, append-nil}
 use Prim.Native.Nat.{ℕ, zero, suc, _+_, _-_, _*_, _≤_, _<_}
 use native.Mathlib.Nat.{zero-add, suc-add}
 use native.Mathlib.Numerals.{add-one}
 use native.Mathlib.Omega.{arith}
 use lib.Dec.{ltb}
-use lib.ListN.{length, set, length-append}
+use lib.ListN.{length, length-append}
 use borrow.Author.Tests.{ltb-false}
 use Rattle.machine.specs.declared.Pipeline.{Pipeline}
 use Rattle.machine.specs.declared.Kinds.{Kinds}
@@ -15,10 +15,10 @@ use Rattle.machine.specs.declared.Kept.{Kept}
 use Rattle.machine.specs.declared.StageW.{StageW}
 use Rattle.machine.specs.declared.StageW.the-variants.{BubbleW as bubbleW, InW as inW}
 use Rattle.machine.specs.Types.{isBad}
-use Rattle.machine.specs.Memory.{Memory, Registers}
+use Rattle.answers.specs.Logs.{laid-more}
 use Rattle.machine.specs.Prediction.{Settings, asIn01}
 use Rattle.machine.specs.Charges.{Reason, free, waited, wronglyGuessed, returned, counted, reasonFrom}
-use Rattle.machine.specs.Pipeline.{Piped, pipedOf, lastAfter, retiredAfter, kindsAfter, logged, clock, clocks}
+use Rattle.machine.specs.Pipeline.{Piped, pipedOf, retiredAfter, kindsAfter, logged, clock, clocks}
 use Rattle.machine.specs.Runs.{laid, countsRefused, pipeAnswer, pipeDone}
 use Rattle.stage.specs.declared.retiring.Tally.{Tally}
 use Rattle.stage.specs.Retiring.{Small, retires, tallyAfter}
@@ -27,14 +27,6 @@ use Rattle.pipe.specs.Parts.{whole, runningOf, noted, Ticked}
 use Rattle.pipe.proofs.Clocks.{piped, clock-is}
 
 -- LOGS
--- one more entry is laid at the next place, where there is one
-laid-more : (es log : List ℕ) (x : ℕ) → laid (es ++ x ∷ []) log ≡ set (laid es log) (length es) x
-unfolding laid
-laid-more [] [] x = refl
-laid-more [] (z ∷ log) x = refl
-laid-more (e ∷ es) [] x = refl
-laid-more (e ∷ es) (z ∷ log) x = ap (λ (l : List ℕ). e ∷ l) (laid-more es log x)
-
 laid-noted : (w : StageW) (es log : List ℕ) (x : ℕ) → noted (retires w) (length es) x (laid es log) ≡ laid (es ++ logged w x) log
 unfolding noted retires logged
 laid-noted bubbleW es log x = rw append-nil

@@ -1,11 +1,10 @@
 -- One law for each way out of a function, over variables for what its callees gave. Assumes nothing.
-use mathlib.Core.Path.{_≡_, refl, sym}
+use mathlib.Core.Path.{_≡_, refl}
 use mathlib.Core.Bool.{Bool, true, false, cond, _&&_, _||_}
 use mathlib.Core.List.{List}
-use Prim.Native.Nat.{ℕ, _≤_}
+use Prim.Native.Nat.{ℕ}
 use lib.Dec.{eqb, ltb, leb}
-use lib.ListN.{length, set}
-use lib.Seq.{set-out}
+use lib.ListN.{set}
 use Rattle.machine.specs.declared.Codes.{Codes}
 use Rattle.machine.specs.declared.Instruction.{Instruction}
 use Rattle.machine.specs.declared.Decoded.{Decoded}
@@ -146,17 +145,13 @@ pub moves : {A : Type 0} (w : StageW) (b : Bool) (x y v : A) → b ≡ badInW w 
 moves w b x y v e h p = cc
 
 -- LOGS
-pub written : (b : Bool) (k x : ℕ) (l : List ℕ) → b ≡ true → set l k x ≡ noted b k x l
+pub written : (b : Bool) (k x : ℕ) (l l′ : List ℕ) → b ≡ true → l′ ≡ set l k x → l′ ≡ noted b k x l
 unfolding noted
-written b k x l h = cc
-
-pub no-place : (b : Bool) (k x : ℕ) (l : List ℕ) → b ≡ true → length l ≤ k → l ≡ noted b k x l
-unfolding noted
-no-place b k x l h n = cc (set-out l k x n)
+written b k x l l′ t e = cc
 
 pub not-retired : (b : Bool) (k x : ℕ) (l : List ℕ) → b ≡ false → l ≡ noted b k x l
 unfolding noted
-not-retired b k x l h = cc
+not-retired b k x l t = cc
 
 pub noted-by : (w : StageW) (b : Bool) (k x : ℕ) (l l′ : List ℕ) → b ≡ retires w → l′ ≡ noted b k x l → l′ ≡ noted (retires w) k x l
 noted-by w b k x l l′ e h = cc

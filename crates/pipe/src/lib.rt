@@ -1,7 +1,7 @@
 // The pipelined engine: a fresh start, one clock, and a run with a cycle budget and two lent logs.
-pub mod moving;
-pub mod refusing;
-pub mod running;
+mod moving;
+mod refusing;
+mod running;
 
 use crate::refusing::refusal;
 use crate::running::looped;

@@ -1,7 +1,7 @@
 // The refusals, of which the lowest number wins.
+use answers::budget_refused;
+use answers::size_refused;
 use isa::rows::functions_of;
-use limits::budget_refused;
-use limits::size_refused;
 use machine::Instruction;
 use machine::Kept;
 use machine::Pipeline;

@@ -92,11 +92,8 @@ fn put_together(s: Running, registers: [u64; 15]) -> Pipeline
 fn note(retired: bool, place: u64, x: u64, log: &mut [u64])
     ensures { λ _. ⌜ now (log .exit) ≡ noted retired place x (now (log .entry)) ⌝ }
 {
-    let at = place as usize;
     if retired {
-        if at < log.len() {
-            log[at] = x;
-        }
+        answers::note(log, place, x);
     }
 }
 

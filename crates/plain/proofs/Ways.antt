@@ -23,7 +23,7 @@ use Rattle.machine.specs.Stages.{sourceA, sourceB, decode, execute, access, new
 use Rattle.machine.specs.Plain.{Plain, plainOf, isStopped, fetched, decoded, executed, accessed, performed, stoppedBy, step, steps}
 use Rattle.machine.specs.Runs.{laid, lowest, sizeRefused, budgetRefused, logRefused, plainLimit, plainRefusal, plainAnswer, plainDone, plainBy, plainRun, plainStep}
 use Rattle.plain.specs.Records.{withRegister, afterPerformed, afterStop, RunsTo}
-use Rattle.plain.specs.Logs.{laid-more, laid-length}
+use Rattle.answers.specs.Logs.{laid-more, laid-length}
 use Rattle.plain.specs.Steps.{bare, behind, step-bare, step-logs, step-counts, still-on}
 
 pub changed : (m : Machine) (q v : ℕ) → q < 15

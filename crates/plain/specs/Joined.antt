@@ -1,18 +1,17 @@
 -- Running a, then b, equals running a + b, logs joined, where none of the three is refused. Assumes nothing.
 use mathlib.Core.Path.{_≡_, refl, ap, sym, _∙_}
-use mathlib.Core.Bool.{Bool, true, false, cond, _||_}
+use mathlib.Core.Bool.{cond}
 use mathlib.Core.List.{List, [], _∷_, _++_}
-use Prim.Native.Nat.{ℕ, zero, suc, _+_, _≤_}
+use Prim.Native.Nat.{ℕ, zero, suc, _+_}
 use native.Mathlib.Omega.{arith}
-use borrow.Author.Tests.{ltb-false}
-use lib.Dec.{eqb, ltb, eqb·suc-zero}
+use lib.Dec.{eqb, eqb·suc-zero}
 use lib.ListN.{length, take, drop}
 use Rattle.machine.specs.declared.Machine.{Machine}
 use Rattle.machine.specs.Memory.{Memory}
 use Rattle.machine.specs.Plain.{Plain, plainOf, steps}
-use Rattle.machine.specs.Runs.{laid, lowest, sizeRefused, budgetRefused, logRefused, plainRefusal, plainLimit, PlainAnswer, plainAnswer, plainDone, plainBy, plainRun}
-use Rattle.plain.specs.Logs.{laid-joined}
-use Rattle.plain.specs.Steps.{bare, behind, steps-add, steps-bare, steps-length}
+use Rattle.machine.specs.Runs.{laid, plainRefusal, PlainAnswer, plainAnswer, plainDone, plainBy, plainRun}
+use Rattle.answers.specs.Logs.{laid-joined}
+use Rattle.plain.specs.Steps.{bare, behind, steps-add, steps-bare}
 
 -- how many instructions a run of a performs
 abbrev pub performedIn : Machine → Memory → ℕ → ℕ
@@ -36,23 +35,6 @@ done : (k : Machine) (m : Memory) (a : ℕ) (log : List ℕ) → plainRun k m a 
 unfolding plainRun plainBy
 done k m a log h = rw (answered k m a log h)
 
--- a test that would have given a number above 0 failed
-passed : (t : Bool) (n x : ℕ) → cond t (suc n) x ≡ 0 → (t ≡ false) × (x ≡ 0)
-passed true n x e = absurd (omega arith)
-passed false n x e = (refl, e)
-
-either : (a b : Bool) → a || b ≡ false → a ≡ false
-either true b h = h
-either false b h = refl
-
-long-enough : (size count budget n : ℕ) → plainRefusal size count budget (n ∷ []) ≡ 0 → budget ≤ n
-unfolding plainRefusal lowest logRefused
-long-enough size count budget n h =
-    let p = passed (sizeRefused size) 0 _ h in
-    let q = passed (budgetRefused plainLimit count budget) 2 _ (p .1) in
-    let r = passed (ltb n budget || false) 3 0 (q .1) in
-    ltb-false n budget (either (ltb n budget) false (r .0))
-
 -- the three runs on the definitions' own states
 module _ (k : Machine) (m : Memory) (a b : ℕ) (log : List ℕ) where
   first : Plain
@@ -64,9 +46,6 @@ module _ (k : Machine) (m : Memory) (a b : ℕ) (log : List ℕ) where
   both : steps (plainOf k m) (b + a) ≡ behind (first .log) second
   unfolding first second
   both = steps-add (plainOf k m) a b ∙ steps-bare first b
-
-  two-logs : length (first .log) ≤ length log → laid (first .log ++ second .log) log ≡ take (length (first .log)) (laid (first .log) log) ++ laid (second .log) (drop (length (first .log)) (laid (first .log) log))
-  two-logs h = laid-joined (first .log) (second .log) log h
 
   second-is : plainRun k m a log .number ≡ 0 → goingOn k m a b log .number ≡ 0
       → goingOn k m a b log ≡ plainDone second (drop (length (first .log)) (laid (first .log) log))
@@ -80,11 +59,9 @@ module _ (k : Machine) (m : Memory) (a b : ℕ) (log : List ℕ) where
       ≡ plainAnswer 0 (goingOn k m a b log .machine) (goingOn k m a b log .memory) (take (performedIn k m a) (plainRun k m a log .log) ++ goingOn k m a b log .log)
   unfolding first second plainDone
   joined h₁ h₂ h₃ =
-      let room : length (first .log) ≤ length log =
-      omega (arith, steps-length (plainOf k m) a, long-enough (length m) (k .count) a (length log) (answered k m a log h₁)) in
       done k m (b + a) log h₃
       ∙ (ap (λ (s : Plain). plainDone s log) both
-      ∙ (ap (λ (l : List ℕ). plainAnswer 0 (second .machine) (second .memory) l) (two-logs room)
+      ∙ (ap (λ (l : List ℕ). plainAnswer 0 (second .machine) (second .memory) l) (laid-joined (first .log) (second .log) log)
       ∙ sym
       (ap (λ (o : PlainAnswer). plainAnswer 0 (o .machine) (o .memory) (take (performedIn k m a) (plainRun k m a log .log) ++ o .log)) (second-is h₁ h₂)
       ∙ ap (λ (o : PlainAnswer). plainAnswer 0 (second .machine) (second .memory) (take (performedIn k m a) (o .log) ++ laid (second .log) (drop (length (first .log)) (laid (first .log) log)))) (done k m a log h₁))))

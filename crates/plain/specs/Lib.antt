@@ -1,4 +1,3 @@
 pub mod Records
-pub mod Logs
 pub mod Steps
 pub mod Joined

@@ -4,7 +4,6 @@ use mathlib.Core.Bool.{Bool, true, false, cond}
 use mathlib.Core.List.{List, [], _∷_, _++_, append-nil, append-assoc}
 use Prim.Native.Nat.{ℕ, zero, suc, _+_, _-_, _≤_}
 use native.Mathlib.Omega.{arith}
-use lib.ListN.{length, length-append}
 use Rattle.machine.specs.Types.{isBad}
 use Rattle.machine.specs.Plain.{Plain, plainOf, isStopped, fetched, decoded, executed, accessed, performed, stoppedBy, step, steps}
 
@@ -72,22 +71,6 @@ step-logs s h = go (isBad (accessed s .status)) refl
     go : (c : Bool) → isBad (accessed s .status) ≡ c → step s .log ≡ s .log ++ s .machine .address ∷ []
     go true e = cc
     go false e = cc
-
--- at most one entry a step, and counted as such
-pub step-length : (s : Plain) → length (step s .log) ≤ length (s .log) + 1
-unfolding step
-step-length s = go (isStopped s) refl
-  where
-    go : (b : Bool) → isStopped s ≡ b → length (step s .log) ≤ length (s .log) + 1
-    go true e =
-        let k : step s ≡ s = cc in
-        omega (arith, ap (λ (x : Plain). length (x .log)) k)
-    go false e = omega (arith, ap length (step-logs s e), length-append (s .log) (s .machine .address ∷ []))
-
-pub steps-length : (s : Plain) (n : ℕ) → length (steps s n .log) ≤ length (s .log) + n
-unfolding steps
-steps-length s zero = omega arith
-steps-length s (suc n) = omega (arith, steps-length s n, step-length (steps s n))
 
 pub step-counts : (s : Plain) → step s .machine .count ≤ s .machine .count + 1
 unfolding step performed stoppedBy

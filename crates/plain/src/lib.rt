@@ -21,7 +21,6 @@ ghost use mathlib.Core.Path.{_≡_};
 ghost use mathlib.Core.Bool.{Bool, true, false};
 ghost use mathlib.Core.List.{[], _∷_};
 ghost use Prim.Native.Nat.{_+_, _≤_, _<_};
-ghost use lib.ListN.{set};
 ghost use Rattle.machine.specs.Types.{isBad};
 ghost use Rattle.machine.specs.Memory.{value as valueOf};
 ghost use Rattle.machine.specs.Stages.{decode};
@@ -136,16 +135,6 @@ fn advance(m: Machine, memory: &mut [u8]) -> Machine
     after_performed(m, x, w)
 }
 
-// Place k of a log, where the log has one.
-fn note(log: &mut [u64], k: u64, address: u64)
-    ensures { λ _. ⌜ now (log .exit) ≡ set (now (log .entry)) k address ⌝ }
-{
-    if k < log.len() as u64 {
-        let at = k as usize;
-        log[at] = address;
-    }
-}
-
 // The loop of both entries.
 fn run_on(m: Machine, memory: &mut [u8], budget: u64, log: &mut [u64]) -> Machine
     requires { ⌜ m .count + budget ≤ 65536 ⌝ }
@@ -154,7 +143,7 @@ fn run_on(m: Machine, memory: &mut [u8], budget: u64, log: &mut [u64]) -> Machin
     let mut s = m;
     let mut done: u64 = 0;
     while done < budget && !is_stopped(s) {
-        note(log, done, s.address);
+        answers::note(log, done, s.address);
         s = advance(s, memory);
         done += 1;
     }
@@ -165,10 +154,10 @@ fn run_on(m: Machine, memory: &mut [u8], budget: u64, log: &mut [u64]) -> Machin
 fn refusal(size: usize, count: u64, budget: u64, short: bool) -> u64
     ensures { λ r. ⌜ r ≡ lowest ((1, sizeRefused size) ∷ (3, budgetRefused plainLimit count budget) ∷ (4, short) ∷ []) ⌝ }
 {
-    if limits::size_refused(size) {
+    if answers::size_refused(size) {
         return 1;
     }
-    if limits::budget_refused(65536, count, budget) {
+    if answers::budget_refused(65536, count, budget) {
         return 3;
     }
     if short {

@@ -1,7 +1,7 @@
 use Rattle.machine.specs.Runs.{sizeRefused}
 use mathlib.Core.Path.{refl}
-use Rattle.limits.proofs.size_refused.Statement.{statement}
-use Rattle.limits.proofs.size_refused.Tie as tie
+use Rattle.answers.proofs.size_refused.Statement.{statement}
+use Rattle.answers.proofs.size_refused.Tie as tie
 
 returns : tie.Need-returns
 unfolding sizeRefused

@@ -1,8 +1,8 @@
 use mathlib.Core.Path.{sym}
 use lib.Seq.{set-out}
 use borrow.Author.Needs.{needs}
-use Rattle.plain.proofs.note.Statement.{statement}
-use Rattle.plain.proofs.note.Tie as tie
+use Rattle.answers.proofs.note.Statement.{statement}
+use Rattle.answers.proofs.note.Tie as tie
 
 mul-log : tie.Need-mul-log
 mul-log c = search needs

@@ -1,5 +1,6 @@
-// The tests of document 01's table of refusals that both engines and the host edge share.
+// Budgets, logs, answers: what the entries of both engines and of the host edge share.
 ghost use mathlib.Core.Path.{_≡_};
+ghost use lib.ListN.{set};
 ghost use Rattle.machine.specs.Runs.{sizeRefused, budgetRefused};
 
 // Refusal 1: no memory, or more than 4,096 bytes.
@@ -20,4 +21,14 @@ pub fn budget_refused(limit: u64, count: u64, budget: u64) -> bool
         return true;
     }
     limit - budget < count
+}
+
+// Place k of a lent log takes x, where the log has that place.
+pub fn note(log: &mut [u64], k: u64, x: u64)
+    ensures { λ _. ⌜ now (log .exit) ≡ set (now (log .entry)) k x ⌝ }
+{
+    let at = k as usize;
+    if at < log.len() {
+        log[at] = x;
+    }
 }

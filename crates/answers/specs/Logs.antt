@@ -1,8 +1,7 @@
 -- Laws of a log laid over the lent one. Assumes nothing.
-use mathlib.Core.Path.{_≡_, refl, ap}
+use mathlib.Core.Path.{_≡_, refl, ap, sym}
 use mathlib.Core.List.{List, [], _∷_, _++_}
-use Prim.Native.Nat.{ℕ, suc, _≤_}
-use native.Mathlib.Omega.{arith}
+use Prim.Native.Nat.{ℕ, suc}
 use lib.ListN.{length, set, take, drop}
 use Rattle.machine.specs.Runs.{laid}
 
@@ -20,10 +19,15 @@ laid-length [] log = refl
 laid-length (e ∷ es) [] = refl
 laid-length (e ∷ es) (y ∷ log) = ap suc (laid-length es log)
 
--- entries laid in two goes
-pub laid-joined : (es fs log : List ℕ) → length es ≤ length log
-    → laid (es ++ fs) log ≡ take (length es) (laid es log) ++ laid fs (drop (length es) (laid es log))
+-- a log that has no place keeps none
+pub laid-none : (es : List ℕ) → laid es [] ≡ []
 unfolding laid
-laid-joined [] fs log h = refl
-laid-joined (e ∷ es) fs [] h = absurd (omega arith)
-laid-joined (e ∷ es) fs (y ∷ log) h = ap (λ (l : List ℕ). e ∷ l) (laid-joined es fs log (omega arith))
+laid-none [] = refl
+laid-none (e ∷ es) = refl
+
+-- entries laid in two goes
+pub laid-joined : (es fs log : List ℕ) → laid (es ++ fs) log ≡ take (length es) (laid es log) ++ laid fs (drop (length es) (laid es log))
+unfolding laid
+laid-joined [] fs log = refl
+laid-joined (e ∷ es) fs [] = sym (laid-none fs)
+laid-joined (e ∷ es) fs (y ∷ log) = ap (λ (l : List ℕ). e ∷ l) (laid-joined es fs log)

@@ -1,6 +1,6 @@
-use Rattle.limits.proofs.Ways.{none, above, rest}
-use Rattle.limits.proofs.budget_refused.Statement.{statement}
-use Rattle.limits.proofs.budget_refused.Tie as tie
+use Rattle.answers.proofs.Ways.{none, above, rest}
+use Rattle.answers.proofs.budget_refused.Statement.{statement}
+use Rattle.answers.proofs.budget_refused.Tie as tie
 
 returns : tie.Need-returns
 returns c = none _ _ _ (c .if1 .taken)
