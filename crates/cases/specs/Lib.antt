@@ -7,3 +7,4 @@ pub mod Bounds
 pub mod Promises
 pub mod Single
 pub mod Wrong
+pub mod Edge

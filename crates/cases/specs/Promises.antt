@@ -8,6 +8,7 @@ use Rattle.machine.specs.Prediction.{asIn01}
 use Rattle.machine.specs.Plain.{plainStart}
 use Rattle.machine.specs.Pipeline.{pipeStart}
 use Rattle.machine.specs.Runs.{PlainAnswer, PipeAnswer, plainStep, plainRun, pipeClock, pipeRun, pipeRunUnlogged}
+use Rattle.edge.specs.Edge.{Edge, replayed}
 use Rattle.cases.specs.Names.{Codes, Machine, Pipeline}
 
 -- an open operation: what a caller gives and lends; what it has afterwards, the number, the record and all lent bytes and words; and the
@@ -55,3 +56,8 @@ pipe-run = promising (Pipeline × Memory × ℕ × List ℕ × List ℕ) PipeAns
 -- pipe::run_unlogged: a run without logs
 abbrev pub pipe-run-unlogged : Operation
 pipe-run-unlogged = promising (Pipeline × Memory × ℕ) PipeAnswer (λ x. pipeRunUnlogged asIn01 (x .0) (x .1) (x .2))
+
+-- edge::y86_replay: memory, registers and result as lent, start address, codes and budget
+abbrev pub host-edge : Operation
+host-edge =
+    promising (Memory × List ℕ × List ℕ × ℕ × ℕ × ℕ) Edge (λ x. replayed (x .0) (x .1) (x .2) (x .3) (x .4) (x .5))

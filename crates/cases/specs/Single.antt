@@ -4,8 +4,9 @@ use mathlib.Core.Path.{_≡_, refl, sym, _∙_, ap}
 use mathlib.Core.List.{List}
 use Rattle.machine.specs.Memory.{Memory}
 use Rattle.machine.specs.Runs.{plainAnswer, pipeAnswer}
+use Rattle.edge.specs.Edge.{edge}
 use Rattle.cases.specs.Names.{Machine, Pipeline}
-use Rattle.cases.specs.Promises.{Operation, Fits, Promise, plain-start, plain-step, plain-run, pipe-start, pipe-clock, pipe-run, pipe-run-unlogged}
+use Rattle.cases.specs.Promises.{Operation, Fits, Promise, plain-start, plain-step, plain-run, pipe-start, pipe-clock, pipe-run, pipe-run-unlogged, host-edge}
 
 -- two answers that both meet the promise for the same input are equal: number, record, all lent bytes and words
 abbrev pub OneAnswer : Operation → Type 0
@@ -39,6 +40,9 @@ one-pipe-run = one-answer pipe-run
 pub one-pipe-run-unlogged : OneAnswer pipe-run-unlogged
 one-pipe-run-unlogged = one-answer pipe-run-unlogged
 
+pub one-host-edge : OneAnswer host-edge
+one-host-edge = one-answer host-edge
+
 -- what equal answers have in common, part by part
 pub same-plain : {n i : ℕ} {k j : Machine} {m u : Memory} {l v : List ℕ} → plainAnswer n k m l ≡ plainAnswer i j u v → (n ≡ i) × (k ≡ j) × (m ≡ u) × (l ≡ v)
 same-plain e = (ap (λ r. r .number) e, ap (λ r. r .machine) e, ap (λ r. r .memory) e, ap (λ r. r .log) e)
@@ -46,3 +50,6 @@ same-plain e = (ap (λ r. r .number) e, ap (λ r. r .machine) e, ap (λ r. r .me
 pub same-pipe : {n i : ℕ} {k j : Pipeline} {m u : Memory} {a v y w : List ℕ}
     → pipeAnswer n k m a y ≡ pipeAnswer i j u v w → (n ≡ i) × (k ≡ j) × (m ≡ u) × (a ≡ v) × (y ≡ w)
 same-pipe e = (ap (λ r. r .number) e, ap (λ r. r .pipeline) e, ap (λ r. r .memory) e, ap (λ r. r .addresses) e, ap (λ r. r .cycles) e)
+
+pub same-edge : {n i : ℕ} {m u : Memory} {r v b w : List ℕ} → edge n m r b ≡ edge i u v w → (n ≡ i) × (m ≡ u) × (r ≡ v) × (b ≡ w)
+same-edge e = (ap (λ x. x .answer) e, ap (λ x. x .memory) e, ap (λ x. x .registers) e, ap (λ x. x .result) e)

@@ -17,7 +17,7 @@ use Rattle.machine.specs.Charges.{charges, due, dueCycles, kindsOf}
 use Rattle.machine.specs.Pipeline.{Piped, pipeStart}
 use Rattle.machine.specs.Runs.{PlainAnswer, PipeAnswer, plainAnswer, pipeAnswer, plainLimit, plainStep, plainRun, pipeBy, pipeClock, pipeRunUnlogged, laid}
 use Rattle.account.specs.Sight.{both}
-use Rattle.account.specs.Statement.{Start, plainFrom, Agrees}
+use Rattle.account.specs.Statement.{Start, plainFrom, keptOf, Agrees}
 use Rattle.cases.specs.Names.{Status, Codes, Machine, Pipeline, hlt}
 use Rattle.cases.specs.Asked.{holds}
 use Rattle.cases.specs.Promises.{Operation, Fits, Promise, plain-step, plain-run, pipe-clock, pipe-run, pipe-run-unlogged}
@@ -31,7 +31,7 @@ pub not-met : (o : Operation) (f : o .Given → o .Answer) (x : o .Given) → Fa
 not-met o f x h p = h (p x)
 
 -- the number that the wrong answer has, and the one that it ought to have
-differs : {A : Type 0} {wrong right : A} (look : A → ℕ) (has ought : ℕ)
+pub differs : {A : Type 0} {wrong right : A} (look : A → ℕ) (has ought : ℕ)
     → eqb (look wrong) has && (eqb (look right) ought && not (eqb has ought)) ≡ true → wrong ≡ right → ⊥
 differs {wrong = w} {right = r} look has ought t e =
     let x = both (eqb (look w) has) (eqb (look r) ought && not (eqb has ought)) t in
@@ -119,7 +119,7 @@ abbrev pub add : Start
 add = from (0x60 ∷ 0x44 ∷ 0x00 ∷ []) 16
 
 -- THE NUMBERS LOOKED AT
-abbrev refused : ℕ → ℕ
+abbrev pub refused : ℕ → ℕ
 refused zero = 0
 refused (suc n) = 1
 
@@ -355,7 +355,7 @@ pipe-makes-up-disagrees i a = differs itself 6 8 refl (agreed _ _ _ _ a)
 
 -- but not memory or codes in mid-run, which only the promises of the entries fix
 pub stores-at-once-agrees : Agrees asIn01 (plainFrom push) (after (pipeStoresAtOnce right) push 3) 3 0
-unfolding PipeFoul plainFrom due charges dueCycles kindsOf
+unfolding PipeFoul plainFrom due charges dueCycles kindsOf keptOf
 stores-at-once-agrees =
     record {
       retired = refl;
@@ -363,6 +363,7 @@ stores-at-once-agrees =
       addresses = refl;
       cycles = refl;
       kinds = refl;
+      kept = λ _. refl;
       registers = refl;
       status = refl;
       last = refl;
