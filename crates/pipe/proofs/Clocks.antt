@@ -1,10 +1,9 @@
 -- One clock on the record taken apart is a clock of the definitions. Assumes nothing.
-use mathlib.Core.Path.{_≡_, refl, ap, sym, _∙_}
+use mathlib.Core.Path.{_≡_, refl, sym}
 use mathlib.Core.Bool.{Bool, true, false, cond}
 use mathlib.Core.List.{List, _++_}
 use Prim.Native.Nat.{ℕ, _+_}
 use Rattle.machine.specs.declared.Pipeline.{Pipeline}
-use Rattle.machine.specs.declared.Accessed.{Accessed}
 use Rattle.machine.specs.declared.Status.{Status}
 use Rattle.machine.specs.declared.Status.the-variants.{Aok as aok, Hlt as hlt, Adr as adr, Ins as ins}
 use Rattle.machine.specs.declared.StageW.{StageW}
@@ -12,11 +11,12 @@ use Rattle.machine.specs.declared.StageW.the-variants.{BubbleW as bubbleW, InW 
 use Rattle.machine.specs.Types.{isBad}
 use Rattle.machine.specs.Memory.{Memory, Registers}
 use Rattle.machine.specs.Prediction.{asIn01}
-use Rattle.machine.specs.Pipeline.{Piped, badInW, memoryAfter, registersAfter, lastAfter, retiredAfter, kindsAfter, keptAfter, logged, advanced, stoppedIn, clockBy, clock, waits, mispredicts, returns, fails, fetchAddress, fetchedNow, nextF, nextD, nextE, nextM, nextCodes}
+use Rattle.machine.specs.Pipeline.{Piped, badInW, memoryAfter, registersAfter, lastAfter, retiredAfter, kindsAfter, logged, advanced, stoppedIn, clockBy, clock, waits, mispredicts, returns, fails, fetchAddress, fetchedNow, nextF, nextD, nextE, nextM, nextCodes}
 use Rattle.stage.specs.Retiring.{statusAfter, tallyAfter}
 use Rattle.stage.proofs.Sources.{decoded-is}
 use Rattle.pipe.specs.declared.running.Running.{Running}
-use Rattle.pipe.specs.Parts.{signalsOf, fetchedIn, decodedIn, shiftedOf, flowAfter, whole, Ticked}
+use Rattle.flow.specs.Moving.{signalsOf, fetchedIn, decodedIn, shiftedOf, flowAfter}
+use Rattle.pipe.specs.Parts.{whole, Ticked}
 
 -- the record, its memory and its logs
 abbrev pub piped : Pipeline → Memory → List ℕ → List ℕ → Piped

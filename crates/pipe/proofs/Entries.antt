@@ -60,29 +60,18 @@ unfolding pipeRun logRefused
 with-logs k m budget a y t e = e ∙ by-logs (length a ∷ length y ∷ []) _ k m budget a y (or-none (ltb (length a) budget) (ltb (length y) budget))
 
 -- a log with no places has none afterwards
-module _ (k : Pipeline) (m : Memory) (budget : ℕ) where
-  unlogged : answerBy false k m budget [] [] .addresses ≡ []
-  unfolding answerBy pipeDone
-  unlogged = go (eqb (refusalBy false k (length m) budget) 0)
-    where
-      go : (b : Bool) → cond b (pipeDone (clocks asIn01 (pipedOf k m) budget) [] []) (pipeAnswer (refusalBy false k (length m) budget) k m [] []) .addresses ≡ []
-      go true = laid-none (clocks asIn01 (pipedOf k m) budget .addresses)
-      go false = refl
+abbrev bare : PipeAnswer → PipeAnswer
+bare t = pipeAnswer (t .number) (t .pipeline) (t .memory) [] []
 
-  untimed : answerBy false k m budget [] [] .cycles ≡ []
-  unfolding answerBy pipeDone
-  untimed = go (eqb (refusalBy false k (length m) budget) 0)
-    where
-      go : (b : Bool) → cond b (pipeDone (clocks asIn01 (pipedOf k m) budget) [] []) (pipeAnswer (refusalBy false k (length m) budget) k m [] []) .cycles ≡ []
-      go true = laid-none (clocks asIn01 (pipedOf k m) budget .cycles)
-      go false = refl
-
-  pub without-logs : (n : ℕ) (p : Pipeline) (m′ a′ y′ : List ℕ) → pipeAnswer n p m′ a′ y′ ≡ answerBy false k m budget [] [] → pipeAnswer n p m′ [] [] ≡ pipeRunUnlogged asIn01 k m budget
-  unfolding pipeRunUnlogged logRefused
-  without-logs n p m′ a′ y′ e =
-      let ea : a′ ≡ [] = ap (λ (t : PipeAnswer). t .addresses) e ∙ unlogged in
-      let ey : y′ ≡ [] = ap (λ (t : PipeAnswer). t .cycles) e ∙ untimed in
-      cc (by-logs [] false k m budget [] [] refl)
+pub without-logs : (k : Pipeline) (m : Memory) (budget n : ℕ) (p : Pipeline) (m′ a′ y′ : List ℕ) → pipeAnswer n p m′ a′ y′ ≡ answerBy false k m budget [] []
+    → pipeAnswer n p m′ [] [] ≡ pipeRunUnlogged asIn01 k m budget
+unfolding pipeRunUnlogged logRefused answerBy pipeDone
+without-logs k m budget n p m′ a′ y′ e = ap bare e ∙ (go (eqb (refusalBy false k (length m) budget) 0) ∙ by-logs [] false k m budget [] [] refl)
+  where
+    go : (b : Bool) → bare (cond b (pipeDone (clocks asIn01 (pipedOf k m) budget) [] []) (pipeAnswer (refusalBy false k (length m) budget) k m [] []))
+        ≡ cond b (pipeDone (clocks asIn01 (pipedOf k m) budget) [] []) (pipeAnswer (refusalBy false k (length m) budget) k m [] [])
+    go true = simp laid-none
+    go false = refl
 
 pub one-clock : (k : Pipeline) (m : Memory) (t : PipeAnswer) → t ≡ pipeRunUnlogged asIn01 k m 1 → t ≡ pipeClock asIn01 k m
 unfolding pipeClock

@@ -9,13 +9,13 @@ use native.Mathlib.Omega.{arith}
 use lib.Dec.{ltb}
 use lib.ListN.{length, length-append}
 use borrow.Author.Tests.{ltb-false}
+use Rattle.answers.specs.Logs.{laid-more}
 use Rattle.machine.specs.declared.Pipeline.{Pipeline}
 use Rattle.machine.specs.declared.Kinds.{Kinds}
 use Rattle.machine.specs.declared.Kept.{Kept}
 use Rattle.machine.specs.declared.StageW.{StageW}
 use Rattle.machine.specs.declared.StageW.the-variants.{BubbleW as bubbleW, InW as inW}
 use Rattle.machine.specs.Types.{isBad}
-use Rattle.answers.specs.Logs.{laid-more}
 use Rattle.machine.specs.Prediction.{Settings, asIn01}
 use Rattle.machine.specs.Charges.{Reason, free, waited, wronglyGuessed, returned, counted, reasonFrom}
 use Rattle.machine.specs.Pipeline.{Piped, pipedOf, retiredAfter, kindsAfter, logged, clock, clocks}
@@ -26,7 +26,6 @@ use Rattle.pipe.specs.declared.running.Running.{Running}
 use Rattle.pipe.specs.Parts.{whole, runningOf, noted, Ticked}
 use Rattle.pipe.proofs.Clocks.{piped, clock-is}
 
--- LOGS
 laid-noted : (w : StageW) (es log : List ℕ) (x : ℕ) → noted (retires w) (length es) x (laid es log) ≡ laid (es ++ logged w x) log
 unfolding noted retires logged
 laid-noted bubbleW es log x = rw append-nil

@@ -1,62 +1,18 @@
 -- The record taken apart: what the code works on for the length of a run, in the words of machine's Pipeline and Runs.
-use Prim.Native.Nat.{ℕ, _+_}
-use mathlib.Core.Bool.{Bool, cond, _||_}
+use Prim.Native.Nat.{ℕ}
+use mathlib.Core.Bool.{Bool, cond}
 use mathlib.Core.List.{List, [], _∷_}
 use mathlib.Core.Path.{_≡_}
 use lib.Dec.{eqb}
 use lib.ListN.{length, set}
-use Rattle.machine.specs.declared.Instruction.{Instruction}
 use Rattle.machine.specs.declared.Pipeline.{Pipeline}
-use Rattle.machine.specs.declared.StageD.the-variants.{BubbleD as bubbleD, InD as inD}
-use Rattle.machine.specs.declared.StageE.{StageE}
-use Rattle.machine.specs.declared.StageE.the-variants.{BubbleE as bubbleE}
-use Rattle.machine.specs.declared.StageM.{StageM}
-use Rattle.machine.specs.declared.StageM.the-variants.{BubbleM as bubbleM}
-use Rattle.machine.specs.declared.StageW.{StageW}
 use Rattle.machine.specs.Memory.{Memory, Registers}
-use Rattle.machine.specs.Fetch.{fetch}
-use Rattle.machine.specs.Prediction.{asIn01, predictedNext}
-use Rattle.machine.specs.Pipeline.{pipedOf, clocks, afterE, afterM, codesAfter, memoryAfter, registersAfter, waitsBehind, wrong, retInD, retInE, retInM, badInW, returnedTo, mended}
+use Rattle.machine.specs.Prediction.{asIn01}
+use Rattle.machine.specs.Pipeline.{pipedOf, clocks, memoryAfter, registersAfter, badInW}
 use Rattle.machine.specs.Runs.{sizeRefused, budgetRefused, recordRefused, pipeLimit, lowest, PipeAnswer, pipeAnswer, pipeDone}
-use Rattle.stage.specs.Forwarding.{pastE, pastW, decodedBy}
+use Rattle.flow.specs.Moving.{flowAfter}
 use Rattle.stage.specs.Retiring.{retires, statusAfter, tallyAfter}
-use Rattle.pipe.specs.declared.moving.Flow.{Flow}
-use Rattle.pipe.specs.declared.moving.Signals.{Signals}
 use Rattle.pipe.specs.declared.running.Running.{Running}
-
--- THE STAGES' VALUES THROUGH ONE CLOCK, where x is E's instruction after execution and y M's after its access
-unfoldable pub signalsOf : Flow → StageM → StageW → Signals
-signalsOf f x y =
-    record {
-      waits = waitsBehind asIn01 (f .e) (f .d);
-      mispredicts = wrong asIn01 x;
-      returns = retInD (f .d) || (retInE (f .e) || retInM (f .m));
-      fails = badInW y;
-    }
-
-unfoldable pub fetchedIn : Flow → Memory → Instruction
-fetchedIn f m = fetch m (mended asIn01 (f .m) (returnedTo (f .w) (f .predicted)))
-
-unfoldable pub decodedIn : Flow → StageM → StageW → Registers → StageE
-decodedIn f x y r = decodedBy (pastE x) (pastW y) (pastW (f .w)) r (f .d)
-
-unfoldable pub shiftedOf : Flow → StageM → StageW → Instruction → StageE → Flow
-shiftedOf f x y i z =
-    let s = signalsOf f x y in
-    record {
-      predicted = cond (s .waits || s .returns) (f .predicted) (predictedNext asIn01 i);
-      d = cond (s .mispredicts) bubbleD (cond (s .waits) (f .d) (cond (s .returns) bubbleD (inD i)));
-      e = cond (s .mispredicts || s .waits) bubbleE z;
-      m = cond (s .fails) bubbleM x;
-      w = y;
-      codes = cond (s .fails) (f .codes) (codesAfter (f .e) (f .codes));
-    }
-
-unfoldable pub flowAfter : Flow → Registers → Memory → Flow
-flowAfter f r m =
-    let x = afterE (f .e) (f .codes) in
-    let y = afterM (f .m) m in
-    shiftedOf f x y (fetchedIn f m) (decodedIn f x y r)
 
 -- THE RECORD
 unfoldable pub runningOf : Pipeline → Running

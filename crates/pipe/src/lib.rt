@@ -1,5 +1,4 @@
 // The pipelined engine: a fresh start, one clock, and a run with a cycle budget and two lent logs.
-mod moving;
 mod refusing;
 mod running;
 

@@ -1,6 +1,6 @@
 // The loop of every entry, with the registers out of the record for its length.
-use crate::moving::Flow;
-use crate::moving::moved;
+use flow::Flow;
+use flow::moved;
 use isa::decoding::is_bad;
 use machine::Pipeline;
 use machine::Status;
@@ -9,9 +9,8 @@ use stage::retiring::counted;
 use stage::retiring::retires;
 use stage::retiring::status_after;
 ghost use mathlib.Core.Path.{_≡_};
-ghost use mathlib.Core.Bool.{cond, false};
+ghost use mathlib.Core.Bool.{false};
 ghost use Prim.Native.Nat.{_+_, _-_, _≤_, _<_};
-ghost use lib.ListN.{set};
 ghost use Rattle.machine.specs.Prediction.{asIn01};
 ghost use Rattle.machine.specs.Pipeline.{pipedOf, clocks};
 ghost use Rattle.machine.specs.Runs.{pipeAnswer, pipeDone, countsRefused};

@@ -1,10 +1,10 @@
 -- One law for each way out of a function, over variables for what its callees gave. Assumes nothing.
 use mathlib.Core.Path.{_≡_, refl}
-use mathlib.Core.Bool.{Bool, true, false, cond, not, _&&_, _||_, Bool·beq}
+use mathlib.Core.Bool.{Bool, true, false, cond, not, _&&_, _||_}
 use Prim.Native.Nat.{ℕ, _+_}
 use lib.Dec.{eqb, ltb}
 use borrow.Author.Tests.{eq-eqb, ne-eqb}
-use Rattle.stage.specs.Types.{Status, aok, Codes, Instruction, Decoded, Executed, Accessed, Retired, StageD, bubbleD, inD, StageE, bubbleE, inE, StageM, bubbleM, inM, StageW, bubbleW, inW, Kept, noneKept, lastKept, Kinds}
+use Rattle.stage.specs.Types.{aok, Codes, Instruction, Decoded, Executed, Accessed, Retired, StageD, bubbleD, inD, StageE, bubbleE, inE, StageM, bubbleM, inM, StageW, bubbleW, inW, Kept, noneKept, lastKept, Kinds}
 use Rattle.machine.specs.Types.{isBad}
 use Rattle.machine.specs.Memory.{Memory, Registers, value}
 use Rattle.machine.specs.Table.{is}
@@ -63,9 +63,8 @@ pub meets-is : (t q : ℕ) → ltb q 15 && eqb t q ≡ meets t q
 unfolding meets
 meets-is t q = refl
 
-pub load-use : (i j : Instruction) (t a b : ℕ) (x y : Bool) → t ≡ loadedTarget i → a ≡ sourceA j → x ≡ meets t a → b ≡ sourceB j → y ≡ meets t b → (x || y) ≡ loadUse asIn01 i j
-unfolding loadUse
-load-use i j t a b x y p q u v w = cc
+pub meets-one : (l a b : ℕ) (x y : Bool) → x ≡ meets l a → y ≡ meets l b → (x || y) ≡ (meets l a || meets l b)
+meets-one l a b x y p q = cc
 
 pub no-e : (e : StageE) (d : StageD) → e ≡ bubbleE → false ≡ waitsBehind asIn01 e d
 unfolding waitsBehind
@@ -75,9 +74,10 @@ pub no-d : (e : StageE) (d : StageD) (x : Decoded) → e ≡ inE x → d ≡ bub
 unfolding waitsBehind
 no-d e d x h k = cc
 
-pub d-behind-e : (e : StageE) (d : StageD) (x : Decoded) (j : Instruction) (b : Bool) → e ≡ inE x → d ≡ inD j → b ≡ loadUse asIn01 (x .instruction) j → b ≡ waitsBehind asIn01 e d
-unfolding waitsBehind
-d-behind-e e d x j b h k p = cc
+pub d-behind-e : (e : StageE) (d : StageD) (x : Decoded) (j : Instruction) (l a s : ℕ) (b : Bool) → e ≡ inE x → d ≡ inD j
+    → l ≡ loadedTarget (x .instruction) → a ≡ sourceA j → s ≡ sourceB j → b ≡ (meets l a || meets l s) → b ≡ waitsBehind asIn01 e d
+unfolding waitsBehind loadUse
+d-behind-e e d x j l a s b h k p q u v = cc
 
 pub guessed : (i : Instruction) (h : Bool) → eqb (i .code) 7 && not h ≡ mispredicted asIn01 i h
 unfolding mispredicted guess is
@@ -206,24 +206,24 @@ unfolding predictedNext is
 straight-next i v h p = cc (ne-eqb (i .code) 7 h)
 
 -- RETIREMENT
-pub loaded-before : (k : Retired) (j : Instruction) (b : Bool) → b ≡ loadUse asIn01 (k .instruction) j → b ≡ true → 1 ≡ amount (reasonBehind asIn01 k j)
-unfolding reasonBehind amount
-loaded-before k j b e h = cc
+module _ (k : Retired) (j : Instruction) (l a s : ℕ) (b c : Bool) (el : l ≡ loadedTarget (k .instruction)) (ea : a ≡ sourceA j) (es : s ≡ sourceB j) (eb : b ≡ (meets l a || meets l s)) where
+  pub loaded-before : b ≡ true → 1 ≡ amount (reasonBehind asIn01 k j)
+  unfolding reasonBehind amount loadUse
+  loaded-before h = cc
 
-pub jumped-before : (k : Retired) (j : Instruction) (b c : Bool) → b ≡ loadUse asIn01 (k .instruction) j → b ≡ false → c ≡ mispredicted asIn01 (k .instruction) (k .holds)
-    → c && not (eqb (k .instruction .function) 0) ≡ true → 2 ≡ amount (reasonBehind asIn01 k j)
-unfolding reasonBehind amount
-jumped-before k j b c e h f t = cc
+  module _ (h : b ≡ false) (ec : c ≡ mispredicted asIn01 (k .instruction) (k .holds)) where
+    pub jumped-before : c && not (eqb (k .instruction .function) 0) ≡ true → 2 ≡ amount (reasonBehind asIn01 k j)
+    unfolding reasonBehind amount loadUse
+    jumped-before t = cc
 
-pub returned-before : (k : Retired) (j : Instruction) (b c : Bool) → b ≡ loadUse asIn01 (k .instruction) j → b ≡ false → c ≡ mispredicted asIn01 (k .instruction) (k .holds)
-    → c && not (eqb (k .instruction .function) 0) ≡ false → k .instruction .code ≡ 9 → 3 ≡ amount (reasonBehind asIn01 k j)
-unfolding reasonBehind amount is
-returned-before k j b c e h f t r = cc (eq-eqb (k .instruction .code) 9 r)
+    module _ (t : c && not (eqb (k .instruction .function) 0) ≡ false) where
+      pub returned-before : k .instruction .code ≡ 9 → 3 ≡ amount (reasonBehind asIn01 k j)
+      unfolding reasonBehind amount loadUse is
+      returned-before r = cc (eq-eqb (k .instruction .code) 9 r)
 
-pub nothing-before : (k : Retired) (j : Instruction) (b c : Bool) → b ≡ loadUse asIn01 (k .instruction) j → b ≡ false → c ≡ mispredicted asIn01 (k .instruction) (k .holds)
-    → c && not (eqb (k .instruction .function) 0) ≡ false → (k .instruction .code ≡ 9 → ⊥) → 0 ≡ amount (reasonBehind asIn01 k j)
-unfolding reasonBehind amount is
-nothing-before k j b c e h f t r = cc (ne-eqb (k .instruction .code) 9 r)
+      pub nothing-before : (k .instruction .code ≡ 9 → ⊥) → 0 ≡ amount (reasonBehind asIn01 k j)
+      unfolding reasonBehind amount loadUse is
+      nothing-before r = cc (ne-eqb (k .instruction .code) 9 r)
 
 pub uncharged : (k : Kept) (j : Instruction) → k ≡ noneKept → 0 ≡ amount (reasonFrom asIn01 k j)
 unfolding reasonFrom amount

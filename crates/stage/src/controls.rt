@@ -40,9 +40,10 @@ pub fn next_d(
         return d;
     }
     if returns {
-        return StageD::BubbleD;
+        StageD::BubbleD
+    } else {
+        StageD::InD(fetched)
     }
-    StageD::InD(fetched)
 }
 
 // A bubble for misprediction and for load-use.

@@ -1,7 +1,10 @@
 // Retirement: the counts, the last address, the charges by kind, and the instruction kept for its follower's charge.
-use crate::signals::load_use;
+use crate::signals::meets_either;
 use crate::signals::mispredicted;
 use isa::decoding::is_bad;
+use isa::decoding::loaded_target;
+use isa::decoding::source_a;
+use isa::decoding::source_b;
 use machine::Accessed;
 use machine::Instruction;
 use machine::Kept;
@@ -29,7 +32,7 @@ fn charge_behind(k: Retired, j: Instruction) -> u8
     ensures { λ r. ⌜ r ≡ amount (reasonBehind asIn01 k j) ⌝ }
 {
     let i = k.instruction;
-    if load_use(i, j) {
+    if meets_either(loaded_target(i), source_a(j), source_b(j)) {
         return 1;
     }
     if mispredicted(i, k.holds) & (i.function != 0) {
@@ -80,11 +83,11 @@ fn count(kinds: Kinds, charge: u8) -> Kinds
 fn kept_by(x: Accessed, kept: Kept) -> Kept
     ensures { λ r. ⌜ r ≡ keptBy x kept ⌝ }
 {
+    let i = x.instruction;
     let status = x.status;
     if is_bad(status) {
         return kept;
     }
-    let i = x.instruction;
     Kept::LastKept(Retired {
         instruction: i,
         holds: x.holds,

@@ -10,7 +10,7 @@ use machine::StageM;
 use machine::StageW;
 ghost use mathlib.Core.Path.{_≡_};
 ghost use mathlib.Core.Bool.{_||_};
-ghost use Rattle.machine.specs.Prediction.{asIn01, meets as meetsOf, mispredicted as mispredictedOf, loadUse};
+ghost use Rattle.machine.specs.Prediction.{asIn01, meets as meetsOf, mispredicted as mispredictedOf};
 ghost use Rattle.machine.specs.Pipeline.{waitsBehind, wrong as wrongOf, retInD, retInE, retInM, badInW};
 
 // Register 15 as a source matches nothing.
@@ -20,12 +20,11 @@ pub fn meets(target: u8, source: u8) -> bool
     (source < 15) & (target == source)
 }
 
-// The first instruction loads a register among the second's sources.
-pub fn load_use(i: Instruction, j: Instruction) -> bool
-    ensures { λ r. ⌜ r ≡ loadUse asIn01 i j ⌝ }
+// A loaded register is among the sources a and b of another instruction.
+pub fn meets_either(loaded: u8, a: u8, b: u8) -> bool
+    ensures { λ r. ⌜ r ≡ (meetsOf loaded a || meetsOf loaded b) ⌝ }
 {
-    let target = loaded_target(i);
-    meets(target, source_a(j)) | meets(target, source_b(j))
+    meets(loaded, a) | meets(loaded, b)
 }
 
 // Load-use: D waits behind E.
@@ -38,7 +37,7 @@ pub fn waits_behind(e: StageE, d: StageD) -> bool
             StageD::BubbleD => false,
             StageD::InD(j) => {
                 let i = x.instruction;
-                load_use(i, j)
+                meets_either(loaded_target(i), source_a(j), source_b(j))
             }
         },
     }

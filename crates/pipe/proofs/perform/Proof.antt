@@ -7,7 +7,7 @@ refusal-requires : tie.Need-refusal-requires
 refusal-requires c κs = search needs
 
 returns : tie.Need-returns
-returns c = refused _ _ _ _ _ _ _ (c .before .refusal .ensures) (c .if1 .taken)
+returns c = search (needs, refused)
 
 looped-requires : tie.Need-looped-requires
 looped-requires c κs = accepted _ _ _ _ _ (c .before .before .before .before .refusal .ensures) (c .before .before .before .if1 .left)

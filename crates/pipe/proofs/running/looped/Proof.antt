@@ -7,8 +7,6 @@ use borrow.Author.Needs.{needs}
 use Rattle.pipe.proofs.Runs.{Here, here-first, here-next, at-budget, at-stop, first-is, small-first, small-enough}
 use Rattle.pipe.proofs.running.looped.Statement.{statement}
 use Rattle.pipe.proofs.running.looped.Tie as tie
-use Rattle.pipe.proofs.running.looped.Reads as reads
-use Rattle.pipe.proofs.running.looped.Lts as lts
 
 abbrev Inv-loop : tie.InvT-loop
 Inv-loop memory₀ budget addresses₀ cycles₀ first registers₀ s₀ done₀ memory addresses cycles registers s done =

@@ -3,8 +3,17 @@ use borrow.Author.Needs.{needs}
 use Rattle.stage.proofs.retiring.charge_behind.Statement.{statement}
 use Rattle.stage.proofs.retiring.charge_behind.Tie as tie
 
-load-use-requires : tie.Need-load-use-requires
-load-use-requires c κs = search needs
+loaded-target-requires : tie.Need-loaded-target-requires
+loaded-target-requires c κs = search needs
+
+source-a-requires : tie.Need-source-a-requires
+source-a-requires c κs = search needs
+
+source-b-requires : tie.Need-source-b-requires
+source-b-requires c κs = search needs
+
+meets-either-requires : tie.Need-meets-either-requires
+meets-either-requires c κs = search needs
 
 returns : tie.Need-returns
 returns c = search (needs, loaded-before)
@@ -24,4 +33,13 @@ returns-4 c = search (needs, nothing-before)
 pub charge-behind-spec : {M : Type 1} → statement M
 charge-behind-spec =
     tie.close
-    (tie.spec load-use-requires returns mispredicted-requires returns-2 returns-3 returns-4)
+    (tie.spec
+    loaded-target-requires
+    source-a-requires
+    source-b-requires
+    meets-either-requires
+    returns
+    mispredicted-requires
+    returns-2
+    returns-3
+    returns-4)

@@ -15,8 +15,17 @@ enum-told-2 c = search needs
 enum-known-d : tie.Need-enum-known-d
 enum-known-d c = search needs
 
-load-use-requires : tie.Need-load-use-requires
-load-use-requires c κs = search needs
+loaded-target-requires : tie.Need-loaded-target-requires
+loaded-target-requires c κs = search needs
+
+source-a-requires : tie.Need-source-a-requires
+source-a-requires c κs = search needs
+
+source-b-requires : tie.Need-source-b-requires
+source-b-requires c κs = search needs
+
+meets-either-requires : tie.Need-meets-either-requires
+meets-either-requires c κs = search needs
 
 returns : tie.Need-returns
 returns c = search (needs, no-e)
@@ -35,7 +44,10 @@ waits-behind-spec =
     enum-known-e
     enum-told-2
     enum-known-d
-    load-use-requires
+    loaded-target-requires
+    source-a-requires
+    source-b-requires
+    meets-either-requires
     returns
     returns-2
     returns-3)

@@ -1,4 +1,4 @@
-// The stages' values through one clock.
+// One clock of the stages: what stands in F to W, and the codes, with registers and memory beside them.
 use isa::fetching::fetch;
 use machine::Codes;
 use machine::Instruction;
@@ -26,7 +26,7 @@ use stage::working::registers_after;
 ghost use mathlib.Core.Path.{_≡_};
 ghost use mathlib.Core.Bool.{cond};
 ghost use Rattle.machine.specs.Pipeline.{badInW, memoryAfter, registersAfter};
-ghost use Rattle.pipe.specs.Parts.{signalsOf, fetchedIn, decodedIn, shiftedOf, flowAfter};
+ghost use Rattle.flow.specs.Moving.{signalsOf, fetchedIn, decodedIn, flowAfter};
 
 // F to W with the codes: what a clock works on, without registers and counts.
 pub struct Flow {
@@ -46,12 +46,9 @@ pub struct Signals {
     pub fails: bool,
 }
 
-fn signals_now(flow: Flow, executed: StageM, accessed: StageW) -> Signals
-    ensures { λ r. ⌜ r ≡ signalsOf flow executed accessed ⌝ }
+fn signals_now(d: StageD, e: StageE, m: StageM, executed: StageM, accessed: StageW) -> Signals
+    ensures { λ r. ⌜ r ≡ signalsOf d e m executed accessed ⌝ }
 {
-    let d = flow.d;
-    let e = flow.e;
-    let m = flow.m;
     Signals {
         waits: waits_behind(e, d),
         mispredicts: wrong(executed),
@@ -60,39 +57,43 @@ fn signals_now(flow: Flow, executed: StageM, accessed: StageW) -> Signals
     }
 }
 
-fn fetch_now(flow: Flow, memory: &[u8]) -> Instruction
-    ensures { λ r. ⌜ r ≡ fetchedIn flow (now (memory .entry)) ⌝ }
+fn fetch_now(m: StageM, w: StageW, predicted: u64, memory: &[u8]) -> Instruction
+    ensures { λ r. ⌜ r ≡ fetchedIn m w predicted (now (memory .entry)) ⌝ }
 {
-    let m = flow.m;
-    let w = flow.w;
-    fetch(memory, fetch_address(m, w, flow.predicted))
+    fetch(memory, fetch_address(m, w, predicted))
 }
 
-fn decode_now(flow: Flow, executed: StageM, accessed: StageW, registers: &[u64; 15]) -> StageE
-    ensures { λ r. ⌜ r ≡ decodedIn flow executed accessed (now (registers .entry)) ⌝ }
+fn decode_now(
+    d: StageD,
+    executed: StageM,
+    accessed: StageW,
+    w: StageW,
+    registers: &[u64; 15],
+) -> StageE
+    ensures { λ r. ⌜ r ≡ decodedIn d executed accessed w (now (registers .entry)) ⌝ }
 {
-    let d = flow.d;
-    let w = flow.w;
     let behind_e = past_e(executed);
     let behind_m = past_w(accessed);
     let behind_w = past_w(w);
     decode_d(d, behind_e, behind_m, behind_w, registers)
 }
 
-// The controls at the end of the clock.
-fn shifted(
-    flow: Flow,
-    executed: StageM,
-    accessed: StageW,
-    fetched: Instruction,
-    decoded: StageE,
-) -> Flow
-    ensures { λ r. ⌜ r ≡ shiftedOf flow executed accessed fetched decoded ⌝ }
+// A clock in which no bad status stands in W: all is read before memory and registers are written.
+fn advance(flow: Flow, registers: &mut [u64; 15], memory: &mut [u8]) -> Flow
+    ensures { λ r. ⌜ (r ≡ flowAfter flow (now (registers .entry)) (now (memory .entry))) × (now (registers .exit) ≡ registersAfter (flow .w) (now (registers .entry))) × (now (memory .exit) ≡ memoryAfter (flow .m) (now (memory .entry))) ⌝ }
 {
-    let s = signals_now(flow, executed, accessed);
     let d = flow.d;
     let e = flow.e;
+    let m = flow.m;
+    let w = flow.w;
     let codes = flow.codes;
+    let executed = after_e(e, codes);
+    let accessed = after_m(m, memory);
+    let fetched = fetch_now(m, w, flow.predicted, memory);
+    let decoded = decode_now(d, executed, accessed, w, registers);
+    memory_after(m, memory);
+    registers_after(w, registers);
+    let s = signals_now(d, e, m, executed, accessed);
     Flow {
         predicted: next_f(s.waits | s.returns, flow.predicted, fetched),
         d: next_d(s.mispredicts, s.waits, s.returns, d, fetched),
@@ -101,23 +102,6 @@ fn shifted(
         w: accessed,
         codes: next_codes(s.fails, e, codes),
     }
-}
-
-// A clock in which no bad status stands in W: all is read before memory and registers are written.
-fn advance(flow: Flow, registers: &mut [u64; 15], memory: &mut [u8]) -> Flow
-    ensures { λ r. ⌜ (r ≡ flowAfter flow (now (registers .entry)) (now (memory .entry))) × (now (registers .exit) ≡ registersAfter (flow .w) (now (registers .entry))) × (now (memory .exit) ≡ memoryAfter (flow .m) (now (memory .entry))) ⌝ }
-{
-    let e = flow.e;
-    let m = flow.m;
-    let w = flow.w;
-    let codes = flow.codes;
-    let executed = after_e(e, codes);
-    let accessed = after_m(m, memory);
-    let fetched = fetch_now(flow, memory);
-    let decoded = decode_now(flow, executed, accessed, registers);
-    memory_after(m, memory);
-    registers_after(w, registers);
-    shifted(flow, executed, accessed, fetched, decoded)
 }
 
 // Behind a bad status in W everything stays as it stood.

@@ -1,7 +1,7 @@
-use Rattle.pipe.proofs.Ways.{fetched-is}
+use Rattle.flow.proofs.Ways.{fetched-is}
 use borrow.Author.Needs.{needs}
-use Rattle.pipe.proofs.moving.fetch_now.Statement.{statement}
-use Rattle.pipe.proofs.moving.fetch_now.Tie as tie
+use Rattle.flow.proofs.fetch_now.Statement.{statement}
+use Rattle.flow.proofs.fetch_now.Tie as tie
 
 fetch-address-requires : tie.Need-fetch-address-requires
 fetch-address-requires c κs = search needs

@@ -1,7 +1,7 @@
-use Rattle.pipe.proofs.Ways.{signals-are}
+use Rattle.flow.proofs.Ways.{signals-are}
 use borrow.Author.Needs.{needs}
-use Rattle.pipe.proofs.moving.signals_now.Statement.{statement}
-use Rattle.pipe.proofs.moving.signals_now.Tie as tie
+use Rattle.flow.proofs.signals_now.Statement.{statement}
+use Rattle.flow.proofs.signals_now.Tie as tie
 
 waits-behind-requires : tie.Need-waits-behind-requires
 waits-behind-requires c κs = search needs

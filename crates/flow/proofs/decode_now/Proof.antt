@@ -1,7 +1,7 @@
-use Rattle.pipe.proofs.Ways.{decoded-is}
+use Rattle.flow.proofs.Ways.{decoded-now}
 use borrow.Author.Needs.{needs}
-use Rattle.pipe.proofs.moving.decode_now.Statement.{statement}
-use Rattle.pipe.proofs.moving.decode_now.Tie as tie
+use Rattle.flow.proofs.decode_now.Statement.{statement}
+use Rattle.flow.proofs.decode_now.Tie as tie
 
 past-e-requires : tie.Need-past-e-requires
 past-e-requires c κs = search needs
@@ -16,7 +16,7 @@ decode-d-requires : tie.Need-decode-d-requires
 decode-d-requires c κs = search needs
 
 returns : tie.Need-returns
-returns c = search (needs, decoded-is)
+returns c = search (needs, decoded-now)
 
 pub decode-now-spec : {M : Type 1} → statement M
 decode-now-spec =

@@ -1,7 +1,7 @@
-use Rattle.pipe.proofs.Ways.{stays, moves}
+use Rattle.flow.proofs.Ways.{stays, moves}
 use borrow.Author.Needs.{needs}
-use Rattle.pipe.proofs.moving.moved.Statement.{statement}
-use Rattle.pipe.proofs.moving.moved.Tie as tie
+use Rattle.flow.proofs.moved.Statement.{statement}
+use Rattle.flow.proofs.moved.Tie as tie
 
 bad-in-w-requires : tie.Need-bad-in-w-requires
 bad-in-w-requires c κs = search needs

@@ -1,0 +1,50 @@
+-- The stages' values through one clock, in the words of machine's Pipeline: x is E's instruction after execution, y M's after its access.
+use Prim.Native.Nat.{ℕ}
+use mathlib.Core.Bool.{cond, _||_}
+use Rattle.machine.specs.declared.Instruction.{Instruction}
+use Rattle.machine.specs.declared.StageD.{StageD}
+use Rattle.machine.specs.declared.StageD.the-variants.{BubbleD as bubbleD, InD as inD}
+use Rattle.machine.specs.declared.StageE.{StageE}
+use Rattle.machine.specs.declared.StageE.the-variants.{BubbleE as bubbleE}
+use Rattle.machine.specs.declared.StageM.{StageM}
+use Rattle.machine.specs.declared.StageM.the-variants.{BubbleM as bubbleM}
+use Rattle.machine.specs.declared.StageW.{StageW}
+use Rattle.machine.specs.Memory.{Memory, Registers}
+use Rattle.machine.specs.Fetch.{fetch}
+use Rattle.machine.specs.Prediction.{asIn01, predictedNext}
+use Rattle.machine.specs.Pipeline.{afterE, afterM, codesAfter, waitsBehind, wrong, retInD, retInE, retInM, badInW, returnedTo, mended}
+use Rattle.stage.specs.Forwarding.{pastE, pastW, decodedBy}
+use Rattle.flow.specs.declared.Flow.{Flow}
+use Rattle.flow.specs.declared.Signals.{Signals}
+
+unfoldable pub signalsOf : StageD → StageE → StageM → StageM → StageW → Signals
+signalsOf d e m x y =
+    record {
+      waits = waitsBehind asIn01 e d;
+      mispredicts = wrong asIn01 x;
+      returns = retInD d || (retInE e || retInM m);
+      fails = badInW y;
+    }
+
+unfoldable pub fetchedIn : StageM → StageW → ℕ → Memory → Instruction
+fetchedIn m w f bytes = fetch bytes (mended asIn01 m (returnedTo w f))
+
+unfoldable pub decodedIn : StageD → StageM → StageW → StageW → Registers → StageE
+decodedIn d x y w r = decodedBy (pastE x) (pastW y) (pastW w) r d
+
+unfoldable pub shiftedOf : Flow → Signals → StageM → StageW → Instruction → StageE → Flow
+shiftedOf f s x y i z =
+    record {
+      predicted = cond (s .waits || s .returns) (f .predicted) (predictedNext asIn01 i);
+      d = cond (s .mispredicts) bubbleD (cond (s .waits) (f .d) (cond (s .returns) bubbleD (inD i)));
+      e = cond (s .mispredicts || s .waits) bubbleE z;
+      m = cond (s .fails) bubbleM x;
+      w = y;
+      codes = cond (s .fails) (f .codes) (codesAfter (f .e) (f .codes));
+    }
+
+unfoldable pub flowAfter : Flow → Registers → Memory → Flow
+flowAfter f r m =
+    let x = afterE (f .e) (f .codes) in
+    let y = afterM (f .m) m in
+    shiftedOf f (signalsOf (f .d) (f .e) (f .m) x y) x y (fetchedIn (f .m) (f .w) (f .predicted) m) (decodedIn (f .d) x y (f .w) r)
