@@ -1,10 +1,11 @@
 -- What the numbers of the constant tables decide is what the rows say. Assumes nothing.
-use mathlib.Core.Path.{_≡_, refl, _∙_}
+use mathlib.Core.Path.{_≡_, refl, ap, sym, _∙_}
 use mathlib.Core.Bool.{_||_, cond}
-use mathlib.Core.List.{map}
-use Prim.Native.Nat.{ℕ}
+use mathlib.Core.List.{List, [], _∷_, map}
+use Prim.Native.Nat.{ℕ, zero, suc, _≤_, _<_}
+use native.Mathlib.Omega.{arith}
 use lib.Dec.{eqb}
-use lib.ListN.{getD, List·getD-map}
+use lib.ListN.{length, getD, List·getD-map, List·getD-eq-default}
 use Rattle.machine.specs.declared.Instruction.{Instruction}
 use Rattle.machine.specs.declared.Decoded.{Decoded}
 use Rattle.machine.specs.declared.Executed.{Executed}
@@ -13,10 +14,20 @@ use Rattle.machine.specs.Fetch.{halvesFit}
 use Rattle.machine.specs.Stages.{register, computed, loading, storing, addressed, stored}
 use Rattle.isa.specs.Numbers.{byteNumber, whichNumber, computesNumber, accessesNumber, halvesFitBy, registerBy, computedBy}
 
--- a column of the table, read at any code
-pub column : (f : Row → ℕ) (code : ℕ) (r : ℕ) → r ≡ getD (map f table) code (f noRow) → r ≡ f (rowOf code)
-unfolding rowOf
-column f code r e = e ∙ List·getD-map f table code noRow
+-- an entry that is there does not depend on the default
+there : (l : List ℕ) (k d d′ : ℕ) → k < length l → getD l k d ≡ getD l k d′
+there [] k d d′ h = absurd (omega arith)
+there (x ∷ l) zero d d′ h = refl
+there (x ∷ l) (suc k) d d′ h = there l k d d′ (omega arith)
+
+-- a column of the table, at the code of a row and at any other
+pub column-in : (f : Row → ℕ) (code : ℕ) → code < 16 → getD (map f table) code 0 ≡ f (rowOf code)
+unfolding rowOf table
+column-in f code h = there (map f table) code 0 (f noRow) h ∙ List·getD-map f table code noRow
+
+pub column-out : (f : Row → ℕ) (code : ℕ) → 16 ≤ code → f noRow ≡ f (rowOf code)
+unfolding rowOf table
+column-out f code h = ap f (sym (List·getD-eq-default table noRow h))
 
 pub fits-by : (y : RegisterByte) (a b : ℕ) → halvesFitBy (byteNumber y) a b ≡ halvesFit y a b
 unfolding halvesFitBy byteNumber halvesFit

@@ -2,7 +2,7 @@
 use mathlib.Core.Path.{_≡_, refl, sym}
 use mathlib.Core.Bool.{Bool, true, false, cond, not, _&&_, _||_, Bool·beq}
 use mathlib.Core.List.{List, [], _∷_}
-use Prim.Native.Nat.{ℕ, zero, suc, _≤_, _<_}
+use Prim.Native.Nat.{ℕ, zero, suc, _≤_}
 use native.Mathlib.Omega.{arith}
 use lib.Bits.{bitAnd, bitXor}
 use lib.Dec.{eqb}
@@ -25,12 +25,6 @@ use Rattle.machine.specs.Table.{rowOf, is}
 use Rattle.machine.specs.Stages.{sourceA, sourceB, resultTarget, loadedTarget, newRegisters, operated, overflows, operatedCodes, newCodes, condition, result, outcome, execute, loads, stores, accessAddress, storedWord, accessStatus, access, newMemory, turned, straight, nextAddress}
 use Rattle.isa.specs.Numbers.{whichNumber, computesNumber, accessesNumber, registerBy, computedBy}
 use Rattle.isa.proofs.Entries.{register-by, computed-by, loads-by, stores-by, addressed-by, stored-by}
-
--- an entry that is there does not depend on the default
-pub there : (l : List ℕ) (k d d′ : ℕ) → k < length l → getD l k d ≡ getD l k d′
-there [] k d d′ h = absurd (omega arith)
-there (x ∷ l) zero d d′ h = refl
-there (x ∷ l) (suc k) d d′ h = there l k d d′ (omega arith)
 
 pub missing : {A : Type 0} (l : List A) (k : ℕ) (d : A) → length l ≤ k → d ≡ getD l k d
 missing l k d h = sym (List·getD-eq-default l d h)

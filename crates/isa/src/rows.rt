@@ -1,8 +1,5 @@
 // The table of sixteen rows, a constant array for each column.
 ghost use mathlib.Core.Path.{_≡_};
-ghost use mathlib.Core.Bool.{cond};
-ghost use lib.Dec.{ltb};
-ghost use lib.ListN.{getD};
 ghost use Rattle.machine.specs.Table.{rowOf};
 ghost use Rattle.isa.specs.Numbers.{byteNumber, whichNumber, computesNumber, accessesNumber};
 
@@ -24,69 +21,103 @@ const TARGETS: [u8; 16] = [0, 0, 2, 2, 0, 0, 2, 0, 3, 3, 3, 3, 0, 0, 0, 0];
 
 const LOADED: [u8; 16] = [0, 0, 0, 0, 0, 1, 0, 0, 0, 0, 0, 1, 0, 0, 0, 0];
 
-// A column's entry; a code that no byte holds has the entry of a code without a row.
-fn entry(column: [u8; 16], code: u8, other: u8) -> u8
-    ensures { λ r. ⌜ r ≡ getD column code other ⌝ }
-{
-    if code < 16 {
-        let k = code as usize;
-        column[k]
-    } else {
-        other
-    }
-}
-
+// A code that no byte holds has the entry of a code without a row.
 pub fn size_of(code: u8) -> u8
     ensures { λ r. ⌜ r ≡ rowOf code .size ⌝ }
 {
-    entry(SIZES, code, 1)
+    if code < 16 {
+        let k = code as usize;
+        SIZES[k]
+    } else {
+        1
+    }
 }
 
 // How many functions there are, from 0 on.
 pub fn functions_of(code: u8) -> u8
     ensures { λ r. ⌜ r ≡ rowOf code .functions ⌝ }
 {
-    entry(FUNCTIONS, code, 0)
+    if code < 16 {
+        let k = code as usize;
+        FUNCTIONS[k]
+    } else {
+        0
+    }
 }
 
 pub fn byte_of(code: u8) -> u8
     ensures { λ r. ⌜ r ≡ byteNumber (rowOf code .byte) ⌝ }
 {
-    entry(BYTES, code, 0)
+    if code < 16 {
+        let k = code as usize;
+        BYTES[k]
+    } else {
+        0
+    }
 }
 
 pub fn a_from(code: u8) -> u8
     ensures { λ r. ⌜ r ≡ whichNumber (rowOf code .a) ⌝ }
 {
-    entry(A_FROM, code, 0)
+    if code < 16 {
+        let k = code as usize;
+        A_FROM[k]
+    } else {
+        0
+    }
 }
 
 pub fn b_from(code: u8) -> u8
     ensures { λ r. ⌜ r ≡ whichNumber (rowOf code .b) ⌝ }
 {
-    entry(B_FROM, code, 0)
+    if code < 16 {
+        let k = code as usize;
+        B_FROM[k]
+    } else {
+        0
+    }
 }
 
 pub fn computes_of(code: u8) -> u8
     ensures { λ r. ⌜ r ≡ computesNumber (rowOf code .computes) ⌝ }
 {
-    entry(COMPUTES, code, 0)
+    if code < 16 {
+        let k = code as usize;
+        COMPUTES[k]
+    } else {
+        0
+    }
 }
 
 pub fn accesses_of(code: u8) -> u8
     ensures { λ r. ⌜ r ≡ accessesNumber (rowOf code .accesses) ⌝ }
 {
-    entry(ACCESSES, code, 0)
+    if code < 16 {
+        let k = code as usize;
+        ACCESSES[k]
+    } else {
+        0
+    }
 }
 
 pub fn target_of(code: u8) -> u8
     ensures { λ r. ⌜ r ≡ whichNumber (rowOf code .target) ⌝ }
 {
-    entry(TARGETS, code, 0)
+    if code < 16 {
+        let k = code as usize;
+        TARGETS[k]
+    } else {
+        0
+    }
 }
 
 pub fn loaded_of(code: u8) -> u8
     ensures { λ r. ⌜ r ≡ whichNumber (rowOf code .loaded) ⌝ }
 {
-    entry(LOADED, code, 0)
+    if code < 16 {
+        let k = code as usize;
+        LOADED[k]
+    } else {
+        0
+    }
 }
