@@ -1,0 +1,23 @@
+//! Links the proved host edge, which `rt staticlib edge` builds.
+
+use std::path::Path;
+
+/// Where the repository keeps the archive, from this package on.
+const ARCHIVE: &str = "../target/staticlib/libedge.a";
+
+fn main() {
+    let package = std::env::var_os("CARGO_MANIFEST_DIR").expect("cargo names the package");
+    let archive = Path::new(&package).join(ARCHIVE);
+    println!("cargo::rerun-if-changed={}", archive.display());
+    if !archive.is_file() {
+        println!(
+            "cargo::error=the proved host edge is not built: \
+             target/staticlib/libedge.a is missing. \
+             Run `rt staticlib edge` at the root of the repository, or `bin/build`, which does all"
+        );
+        return;
+    }
+    let folder = archive.parent().expect("an archive lies in a folder");
+    println!("cargo::rustc-link-search=native={}", folder.display());
+    println!("cargo::rustc-link-lib=static=edge");
+}

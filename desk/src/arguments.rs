@@ -1,0 +1,160 @@
+//! What the command line asks for.
+
+use crate::bench::Once;
+use crate::inspect::Asked;
+use crate::Fault;
+use std::ffi::{OsStr, OsString};
+
+pub enum Command {
+    Help,
+    Replay(Asked),
+    Bench,
+    Instructions,
+    /// One replay without a time, for `bench --instructions` to count.
+    Once(Once),
+}
+
+/// The command that the words after `desk` make.
+pub fn read(words: Vec<OsString>) -> Result<Command, Fault> {
+    if words.iter().any(|word| word == "--help" || word == "-h") {
+        return Ok(Command::Help);
+    }
+    let Some((first, rest)) = words.split_first() else {
+        return Err(usage("a command is missing: replay or bench"));
+    };
+    match first.to_str() {
+        Some("replay") => replay(rest).map(Command::Replay),
+        Some("bench") => bench(rest),
+        _ => Err(usage(format!(
+            "{} is no command; there are replay and bench",
+            shown(first)
+        ))),
+    }
+}
+
+/// The words after `desk replay`, in any order.
+fn replay(words: &[OsString]) -> Result<Asked, Fault> {
+    let mut options = Options::default();
+    let mut words = words.iter();
+    while let Some(word) = words.next() {
+        match word.to_str() {
+            Some("--second") => once("--second", options.second.replace(()))?,
+            Some(name) if name.starts_with("--") => {
+                let (name, joined) = split(name);
+                let place = options.named(name)?;
+                let value = joined.or_else(|| words.next().cloned());
+                let value = value.ok_or_else(|| usage(format!("{name} wants a value")))?;
+                once(name, place.replace(value))?;
+            }
+            _ => {
+                let earlier = options.image.replace(word.clone());
+                if earlier.is_some() {
+                    let second = shown(word);
+                    return Err(usage(format!("one image at a time: {second} is another")));
+                }
+            }
+        }
+    }
+    options.asked()
+}
+
+/// An option and, where they are joined by `=`, its value.
+fn split(word: &str) -> (&str, Option<OsString>) {
+    match word.split_once('=') {
+        Some((name, value)) => (name, Some(value.into())),
+        None => (word, None),
+    }
+}
+
+/// The words of one `desk replay`, by their place.
+#[derive(Default)]
+struct Options {
+    image: Option<OsString>,
+    start: Option<OsString>,
+    codes: Option<OsString>,
+    budget: Option<OsString>,
+    registers: Option<OsString>,
+    second: Option<()>,
+}
+
+impl Options {
+    /// The place of an option that has a value.
+    fn named(&mut self, name: &str) -> Result<&mut Option<OsString>, Fault> {
+        match name {
+            "--start" => Ok(&mut self.start),
+            "--codes" => Ok(&mut self.codes),
+            "--budget" => Ok(&mut self.budget),
+            "--registers" => Ok(&mut self.registers),
+            _ => Err(usage(format!("{name} is no option of replay"))),
+        }
+    }
+
+    /// What is asked for; options not given have the values of y86run.
+    fn asked(self) -> Result<Asked, Fault> {
+        let image = self
+            .image
+            .ok_or_else(|| usage("replay wants an image: a file of 1 to 4,096 raw bytes"))?;
+        Ok(Asked {
+            image: image.into(),
+            registers: self.registers.map(Into::into),
+            start: number_or("--start", self.start, 0)?,
+            codes: number_or("--codes", self.codes, 4)?,
+            budget: number_or("--budget", self.budget, 4_000)?,
+            second: self.second.is_some(),
+        })
+    }
+}
+
+fn bench(words: &[OsString]) -> Result<Command, Fault> {
+    let words: Vec<&str> = words
+        .iter()
+        .map(|word| word.to_str().unwrap_or(""))
+        .collect();
+    match words.as_slice() {
+        [] => Ok(Command::Bench),
+        ["--instructions"] => Ok(Command::Instructions),
+        ["--once", engine, program, budget] => {
+            let budget = number("--once", OsStr::new(budget))?;
+            let once = Once::named(engine, program, budget);
+            once.map(Command::Once)
+                .ok_or_else(|| usage("bench --once wants an engine, a program and a budget"))
+        }
+        _ => Err(usage("bench takes --instructions, or nothing")),
+    }
+}
+
+fn once<T>(name: &str, earlier: Option<T>) -> Result<(), Fault> {
+    match earlier {
+        None => Ok(()),
+        Some(_) => Err(usage(format!("{name} is given twice"))),
+    }
+}
+
+fn number_or(name: &str, word: Option<OsString>, otherwise: u64) -> Result<u64, Fault> {
+    word.map_or(Ok(otherwise), |word| number(name, &word))
+}
+
+/// A number of 64 bits, decimal or hex. Whether it is one that the edge takes
+/// is the edge's to say.
+fn number(name: &str, word: &OsStr) -> Result<u64, Fault> {
+    let bad = |why| usage(format!("{name} {}: {why}", shown(word)));
+    let text = word.to_str().unwrap_or("");
+    let (digits, base) = match text.strip_prefix("0x") {
+        Some(digits) => (digits, 16),
+        None => (text, 10),
+    };
+    if digits.is_empty() || !digits.chars().all(|digit| digit.is_digit(base)) {
+        return Err(bad("a number is wanted, decimal, or hex after 0x"));
+    }
+    u64::from_str_radix(digits, base).map_err(|_| bad("a number of at most 64 bits is wanted"))
+}
+
+fn usage(message: impl Into<String>) -> Fault {
+    let message = message.into();
+    Fault::new(Fault::USAGE, format!("{message}\n(desk --help says more)"))
+}
+
+/// A word of the command line as a message quotes it.
+fn shown(word: &OsStr) -> String {
+    format!("'{}'", word.to_string_lossy())
+}

@@ -1,0 +1,103 @@
+//! The product, called through its host edge.
+
+// Nothing checks this declaration against the Rattle source: it is written
+// after `y86_replay` in crates/edge/src/lib.rt by hand, and the two change
+// together. A slice passes as its pointer and then its length.
+extern "C" {
+    fn y86_replay(
+        memory: *mut u8,
+        memory_length: usize,
+        registers: *mut u8,
+        registers_length: usize,
+        result: *mut u8,
+        result_length: usize,
+        start: u64,
+        codes: u64,
+        budget: u64,
+    ) -> u64;
+}
+
+/// One pipelined run without logs from a fresh start, as document 01's host
+/// edge has it. Answers 0 or the number of the refusal.
+///
+/// Any lengths and numbers may be given. They are passed on untested, for the
+/// edge refuses by number what it does not take, and then changes nothing.
+pub fn replay(
+    memory: &mut [u8],
+    registers: &mut [u8],
+    result: &mut [u8],
+    start: u64,
+    codes: u64,
+    budget: u64,
+) -> u64 {
+    // SAFETY: each pointer and length come from one slice that is borrowed for
+    // the length of the call, and no two of them overlap. The edge is proved
+    // to stay inside them, and asks nothing else of a caller.
+    unsafe {
+        y86_replay(
+            memory.as_mut_ptr(),
+            memory.len(),
+            registers.as_mut_ptr(),
+            registers.len(),
+            result.as_mut_ptr(),
+            result.len(),
+            start,
+            codes,
+            budget,
+        )
+    }
+}
+
+/// A replay through the edge, or one that takes and leaves the same.
+pub type Replay = fn(&mut [u8], &mut [u8], &mut [u8], u64, u64, u64) -> u64;
+
+/// What a replay answers: the five result words, or the number of the refusal.
+pub type Answer = Result<Outcome, u64>;
+
+/// The five result words.
+#[derive(Clone, Copy, Debug, PartialEq, Eq)]
+pub struct Outcome {
+    /// AOK 1 (the budget was spent), HLT 2, ADR 3, INS 4.
+    pub status: u64,
+    /// The address of the last instruction retired, or the start address.
+    pub last: u64,
+    /// 4ZF + 2SF + OF.
+    pub codes: u64,
+    pub retired: u64,
+    pub cycles: u64,
+}
+
+/// A replay with a result block of its own. The final registers and memory are
+/// left in the lent bytes.
+pub fn outcome(
+    replay: Replay,
+    memory: &mut [u8],
+    registers: &mut [u8],
+    start: u64,
+    codes: u64,
+    budget: u64,
+) -> Answer {
+    let mut result = [0; 40];
+    match replay(memory, registers, &mut result, start, codes, budget) {
+        0 => Ok(Outcome::read(&result)),
+        refusal => Err(refusal),
+    }
+}
+
+impl Outcome {
+    /// The words of a result block.
+    pub fn read(block: &[u8; 40]) -> Outcome {
+        let mut words = [0; 5];
+        for (word, bytes) in words.iter_mut().zip(block.chunks_exact(8)) {
+            *word = bytes.iter().rev().fold(0, |w, b| w << 8 | u64::from(*b));
+        }
+        let [status, last, codes, retired, cycles] = words;
+        Outcome {
+            status,
+            last,
+            codes,
+            retired,
+            cycles,
+        }
+    }
+}

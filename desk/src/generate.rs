@@ -1,0 +1,196 @@
+//! A deterministic generator of cases to compare replays on.
+//!
+//! The same seed gives the same cases, on every machine.
+
+mod programs;
+mod random;
+
+pub use random::Random;
+
+use crate::second::machine::{CYCLE_LIMIT, MEMORY_LIMIT};
+use crate::second::replay::{REGISTER_BYTES, RESULT_BYTES};
+
+/// What a case is made to try.
+#[derive(Clone, Copy, Debug, PartialEq, Eq)]
+pub enum Kind {
+    /// Bytes without any plan.
+    RandomBytes,
+    /// Valid instructions in any order, some with a few bytes damaged.
+    Soup,
+    /// Loops with calls, returns and a stack.
+    Loops,
+    /// Addresses at both ends of memory and of the number line.
+    Ends,
+    /// Every charge, run into every way to stop.
+    Charges,
+    /// Stores into the program's own bytes, near ahead of them.
+    SelfModifying,
+    /// Refused calls, often for several reasons at once.
+    Refusals,
+}
+
+impl Kind {
+    pub const ALL: [Kind; 7] = [
+        Kind::RandomBytes,
+        Kind::Soup,
+        Kind::Loops,
+        Kind::Ends,
+        Kind::Charges,
+        Kind::SelfModifying,
+        Kind::Refusals,
+    ];
+
+    /// The name a table of counts shows.
+    pub fn name(self) -> &'static str {
+        match self {
+            Kind::RandomBytes => "random bytes",
+            Kind::Soup => "soup",
+            Kind::Loops => "loops",
+            Kind::Ends => "ends",
+            Kind::Charges => "charges",
+            Kind::SelfModifying => "self-modifying",
+            Kind::Refusals => "refusals",
+        }
+    }
+}
+
+/// What is lent and given to one replay.
+#[derive(Clone, Debug, PartialEq, Eq)]
+pub struct Case {
+    pub kind: Kind,
+    pub image: Vec<u8>,
+    pub registers: Vec<u8>,
+    pub result: Vec<u8>,
+    pub start: u64,
+    pub codes: u64,
+    pub budget: u64,
+}
+
+/// Makes one case after the other.
+pub struct Generator {
+    random: Random,
+    /// The last size of the sweep over all of them.
+    swept: usize,
+}
+
+impl Generator {
+    pub fn new(seed: u64) -> Generator {
+        Generator {
+            random: Random::new(seed),
+            swept: 0,
+        }
+    }
+
+    /// The next case, of any kind.
+    pub fn case(&mut self) -> Case {
+        let kind = self.random.pick(&Kind::ALL);
+        self.case_of(kind)
+    }
+
+    /// The next case, of one kind.
+    pub fn case_of(&mut self, kind: Kind) -> Case {
+        if kind == Kind::Refusals {
+            return self.refused();
+        }
+        let size = self.size(kind);
+        let random = &mut self.random;
+        let program = match kind {
+            Kind::Soup => programs::soup(random, size),
+            Kind::Loops => programs::loops(random, size),
+            Kind::Ends => programs::ends(random, size),
+            Kind::Charges => programs::charges(random, size),
+            Kind::SelfModifying => programs::self_modifying(random, size),
+            Kind::RandomBytes | Kind::Refusals => programs::random_bytes(random, size),
+        };
+        let registers = program.registers.iter().flat_map(|word| word.to_le_bytes());
+        Case {
+            kind,
+            image: program.image,
+            registers: registers.collect(),
+            // Filled, so that a word left unwritten shows.
+            result: self.random.bytes(RESULT_BYTES),
+            start: program.start,
+            codes: self.random.below(8),
+            budget: self.budget(),
+        }
+    }
+
+    /// A memory size from 1 to 4,096. One in eight is the next of a sweep over
+    /// all sizes, and a few are the largest; the others are small more often,
+    /// as there the ends are near, but mostly with room for programs that have
+    /// a plan.
+    fn size(&mut self, kind: Kind) -> usize {
+        if self.random.chance(1, 128) {
+            return MEMORY_LIMIT;
+        }
+        if self.random.chance(1, 8) {
+            self.swept = self.swept % MEMORY_LIMIT + 1;
+            return self.swept;
+        }
+        let most = self.random.pick(&[24, 64, 256, 256, 512, 1_024]);
+        let size = 1 + self.random.below(most) as usize;
+        let room = match kind {
+            Kind::Loops | Kind::Charges | Kind::SelfModifying => self.random.chance(7, 8),
+            Kind::Soup => self.random.chance(1, 2),
+            _ => false,
+        };
+        size + if room { 250 } else { 0 }
+    }
+
+    /// A budget from 1 to the limit, small ones more often.
+    fn budget(&mut self) -> u64 {
+        let most = self.random.pick(&[12, 12, 60, 300, 300, 300, 4_000, 4_000]);
+        if !self.random.chance(1, 64) {
+            return 1 + self.random.below(most);
+        }
+        match self.random.below(4) {
+            0 => CYCLE_LIMIT,
+            1 => CYCLE_LIMIT - self.random.below(8),
+            _ => 1 + self.random.below(CYCLE_LIMIT),
+        }
+    }
+
+    /// A case of another kind, spoilt in one way or in several.
+    fn refused(&mut self) -> Case {
+        let kind = self.random.pick(&Kind::ALL[..Kind::ALL.len() - 1]);
+        let swept = self.swept;
+        let mut case = self.case_of(kind);
+        // The sweep is for cases that run.
+        self.swept = swept;
+        case.kind = Kind::Refusals;
+        let first = self.random.below(5);
+        for way in 0..5 {
+            if way == first || self.random.chance(1, 4) {
+                self.spoil(&mut case, way);
+            }
+        }
+        case
+    }
+
+    fn spoil(&mut self, case: &mut Case, way: u64) {
+        let random = &mut self.random;
+        let any = random.word();
+        match way {
+            0 => {
+                let over = MEMORY_LIMIT + 1 + random.below(200) as usize;
+                let size = random.pick(&[0, MEMORY_LIMIT + 1, over]);
+                case.image = random.bytes(size);
+            }
+            1 => case.registers = wrong_length(random, REGISTER_BYTES),
+            2 => {
+                case.budget =
+                    random.pick(&[0, CYCLE_LIMIT + 1, u64::MAX, CYCLE_LIMIT + any % 99 + 1])
+            }
+            3 => case.result = wrong_length(random, RESULT_BYTES),
+            _ => case.codes = random.pick(&[8, 9, 255, 256, 1 << 32, u64::MAX, any | 8]),
+        }
+    }
+}
+
+/// A block of bytes that is too short or too long.
+fn wrong_length(random: &mut Random, right: usize) -> Vec<u8> {
+    let any = random.below(2 * right as u64) as usize;
+    let length = random.pick(&[0, 1, right - 1, right + 1, right - 8, right + 8, any]);
+    let length = if length == right { right + 1 } else { length };
+    random.bytes(length)
+}

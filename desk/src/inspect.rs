@@ -1,0 +1,126 @@
+//! `desk replay`: reads the files, replays, and tells what came of it.
+
+use crate::report::{self, Before};
+use crate::Fault;
+use desk::engine::{self, Replay};
+use desk::second;
+use desk::second::machine::{CYCLE_LIMIT, MEMORY_LIMIT};
+use desk::second::replay::REGISTER_BYTES;
+use std::fs::File;
+use std::io::{ErrorKind, Read};
+use std::path::{Path, PathBuf};
+
+/// One replay as the command line asks for it.
+pub struct Asked {
+    pub image: PathBuf,
+    pub registers: Option<PathBuf>,
+    pub start: u64,
+    pub codes: u64,
+    pub budget: u64,
+    pub second: bool,
+}
+
+/// A file's first bytes, one more than may be used: what is too long is seen
+/// to be so, and not read on, however long it is.
+struct Source {
+    name: String,
+    bytes: Vec<u8>,
+    /// The whole length, where the file has one.
+    length: Option<u64>,
+}
+
+/// The text to show for a replay, and the exit status.
+pub fn replay(asked: &Asked) -> Result<(String, u8), Fault> {
+    let image = Source::read(&asked.image, MEMORY_LIMIT)?;
+    let given = match &asked.registers {
+        Some(path) => Source::read(path, REGISTER_BYTES)?,
+        None => Source::zeros(REGISTER_BYTES),
+    };
+    let engine: Replay = match asked.second {
+        true => second::replay,
+        false => engine::replay,
+    };
+    let (mut memory, mut registers) = (image.bytes.clone(), given.bytes.clone());
+    let (start, codes, budget) = (asked.start, asked.codes, asked.budget);
+    let answer = engine::outcome(engine, &mut memory, &mut registers, start, codes, budget);
+    let outcome = answer.map_err(|number| {
+        let why = refusal(number, asked, &image, &given);
+        Fault::new(Fault::REFUSED, format!("refused ({number}): {why}"))
+    })?;
+    let before = Before {
+        memory: &image.bytes,
+        budget,
+    };
+    let text = report::text(&outcome, &before, &memory, &registers);
+    Ok((text, report::exit_status(&outcome)))
+}
+
+/// What a refusal means, in words. Number 4 is not among them: the result
+/// block is this program's own, and has the right length.
+fn refusal(number: u64, asked: &Asked, image: &Source, registers: &Source) -> String {
+    match number {
+        1 => format!("{}; an image has 1 to 4,096", image.says()),
+        2 => format!(
+            "{}; a file of registers has 120, fifteen words of 8",
+            registers.says()
+        ),
+        3 => format!(
+            "the budget is {}; it has to be 1 to {CYCLE_LIMIT} cycles",
+            asked.budget
+        ),
+        5 => format!(
+            "the codes are {}; they have to be 0 to 7, as 4ZF + 2SF + OF",
+            asked.codes
+        ),
+        _ => "the engine does not take this".into(),
+    }
+}
+
+impl Source {
+    fn read(path: &Path, most: usize) -> Result<Source, Fault> {
+        let name = path.display().to_string();
+        let fault = |why: String| Fault::new(Fault::FILE, format!("cannot read {name}: {why}"));
+        let file = File::open(path).map_err(|error| fault(words(&error)))?;
+        let about = file.metadata().map_err(|error| fault(words(&error)))?;
+        if about.is_dir() {
+            return Err(fault("it is a directory; name a file in it".into()));
+        }
+        let mut bytes = Vec::new();
+        file.take(most as u64 + 1)
+            .read_to_end(&mut bytes)
+            .map_err(|error| fault(words(&error)))?;
+        Ok(Source {
+            name,
+            bytes,
+            length: about.is_file().then_some(about.len()),
+        })
+    }
+
+    fn zeros(length: usize) -> Source {
+        Source {
+            name: "no file".into(),
+            bytes: vec![0; length],
+            length: None,
+        }
+    }
+
+    /// How long it is, for a refusal.
+    fn says(&self) -> String {
+        let (name, seen) = (&self.name, self.bytes.len() as u64);
+        match self.length {
+            _ if seen == 0 => format!("{name} is empty, 0 bytes"),
+            Some(1) => format!("{name} has 1 byte"),
+            Some(length) if length >= seen => format!("{name} has {length} bytes"),
+            _ => format!("{name} has {seen} bytes or more"),
+        }
+    }
+}
+
+/// Why a file cannot be read.
+fn words(error: &std::io::Error) -> String {
+    match error.kind() {
+        ErrorKind::NotFound => "there is no such file".into(),
+        ErrorKind::PermissionDenied => "permission is denied".into(),
+        _ => error.to_string(),
+    }
+}

@@ -1,0 +1,104 @@
+//! The desk program's command line.
+
+mod arguments;
+mod bench;
+mod inspect;
+mod report;
+
+use arguments::Command;
+use std::io::Write;
+use std::process::ExitCode;
+
+const HELP: &str = "\
+desk: replays of Y86-64 images by the proved engine, for inspectors
+
+usage:
+  desk replay IMAGE [options]   replay a raw image and show what it left
+  desk bench                    time the engine against the second program
+  desk bench --instructions     count both engines' instructions (by valgrind)
+  desk --help                   this text
+
+IMAGE is a file of 1 to 4,096 bytes: the memory, as it stands at the start.
+
+options of replay:
+  --start A          the address to start from (0)
+  --codes C          the condition codes, 4ZF + 2SF + OF, 0 to 7 (4: ZF alone)
+  --budget B         the most cycles to run, 1 to 262,145 (4000)
+  --registers FILE   120 bytes: the words of rax rcx rdx rbx rsp rbp rsi rdi
+                     and r8 to r14, 8 bytes each, least byte first (all 0)
+  --second           a second opinion: by the second program, not the engine
+
+Numbers are decimal, or hex after 0x. An option that is not given has the value
+in brackets, as in the program y86run. No file is changed.
+
+What is shown: status, last address, codes, instructions retired, cycles, the
+registers that are not 0, and the words that changed in memory (8 bytes each
+from address 0 on, least byte first; the last has what is left). Where the
+budget was spent, instructions are on their way: memory and codes can be ahead
+of the registers.
+
+exit status:
+  0  HLT: the image halted
+  1  AOK: the budget was spent before a stop
+  2  ADR: an address outside memory
+  3  INS: bytes that are no instruction
+  10 refused: nothing was replayed, and the message says why, with the number
+  64 the command was at fault        66 a file could not be read
+  69 bench: valgrind did not run     74 the output could not be written
+";
+
+/// A command that comes to nothing: what to say, and the exit status.
+struct Fault {
+    status: u8,
+    message: String,
+}
+
+impl Fault {
+    const REFUSED: u8 = 10;
+    const USAGE: u8 = 64;
+    const FILE: u8 = 66;
+    const VALGRIND: u8 = 69;
+    const OUTPUT: u8 = 74;
+
+    fn new(status: u8, message: impl Into<String>) -> Fault {
+        Fault {
+            status,
+            message: message.into(),
+        }
+    }
+}
+
+fn main() -> ExitCode {
+    let given: Vec<_> = std::env::args_os().skip(1).collect();
+    match arguments::read(given).and_then(perform) {
+        Ok(status) => ExitCode::from(status),
+        Err(fault) => {
+            eprintln!("desk: {}", fault.message);
+            ExitCode::from(fault.status)
+        }
+    }
+}
+
+/// Performs a command; gives the exit status.
+fn perform(command: Command) -> Result<u8, Fault> {
+    match command {
+        Command::Help => say(HELP).map(|()| 0),
+        Command::Replay(asked) => {
+            let (text, status) = inspect::replay(&asked)?;
+            say(&text).map(|()| status)
+        }
+        Command::Bench => bench::times().map(|()| 0),
+        Command::Instructions => bench::instructions::count().map(|()| 0),
+        Command::Once(once) => once.run().map(|()| 0),
+    }
+}
+
+/// Writes to standard output, where a reader may have gone.
+fn say(text: &str) -> Result<(), Fault> {
+    let mut output = std::io::stdout().lock();
+    let written = output.write_all(text.as_bytes());
+    written.and_then(|()| output.flush()).map_err(|fault| {
+        let message = format!("the output could not be written: {fault}");
+        Fault::new(Fault::OUTPUT, message)
+    })
+}

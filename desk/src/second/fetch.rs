@@ -1,0 +1,85 @@
+//! Fetching an instruction, with the checks in document 01's order.
+
+use super::machine::{Status, NONE};
+use super::table::{row_of, RegisterByte, HALT};
+use super::word;
+
+/// The bytes of an instruction taken apart; a constant it lacks is 0, and
+/// registers it lacks are 15.
+#[derive(Clone, Copy, Debug, PartialEq, Eq)]
+pub struct Parts {
+    pub code: u8,
+    pub function: u8,
+    pub ra: u8,
+    pub rb: u8,
+    pub constant: u64,
+}
+
+/// The instruction at an address, or the status of the first check that fails.
+#[inline(always)]
+pub fn fetch(memory: &[u8], address: u64) -> Result<Parts, Status> {
+    if address >= memory.len() as u64 {
+        return Err(Status::Adr);
+    }
+    let bytes = &memory[address as usize..];
+    let (code, function) = (bytes[0] >> 4, bytes[0] & 15);
+    let row = row_of(code);
+    if function >= row.functions {
+        return Err(Status::Ins);
+    }
+    if bytes.len() < usize::from(row.length) {
+        return Err(Status::Adr);
+    }
+    let (ra, rb) = registers(bytes, row.register_byte)?;
+    if code == HALT {
+        return Err(Status::Hlt);
+    }
+    Ok(Parts {
+        code,
+        function,
+        ra,
+        rb,
+        constant: constant(bytes, row.length),
+    })
+}
+
+/// The register numbers, or INS where a named one is 15 or a filler is not.
+#[inline(always)]
+fn registers(bytes: &[u8], rule: RegisterByte) -> Result<(u8, u8), Status> {
+    if rule == RegisterByte::Absent {
+        return Ok((NONE, NONE));
+    }
+    let byte = bytes.get(1).copied().unwrap_or(0);
+    let (ra, rb) = (byte >> 4, byte & 15);
+    let found = match (ra == NONE, rb == NONE) {
+        (false, false) => RegisterByte::Both,
+        (true, false) => RegisterByte::OnlyB,
+        (false, true) => RegisterByte::OnlyA,
+        (true, true) => return Err(Status::Ins),
+    };
+    if found == rule {
+        Ok((ra, rb))
+    } else {
+        Err(Status::Ins)
+    }
+}
+
+/// The last eight bytes of an instruction long enough to have a constant.
+#[inline(always)]
+fn constant(bytes: &[u8], length: u8) -> u64 {
+    if length < 9 {
+        return 0;
+    }
+    word::load(bytes, u64::from(length) - 8).unwrap_or(0)
+}
+
+/// An instruction's bytes: its table length from its address, cut at N.
+/// Whatever fetch looked at, the first byte alone says the length.
+pub fn own_bytes(memory: &[u8], address: u64) -> std::ops::Range<u64> {
+    let size = memory.len() as u64;
+    if address >= size {
+        return 0..0;
+    }
+    let length = u64::from(row_of(memory[address as usize] >> 4).length);
+    address..size.min(address + length)
+}

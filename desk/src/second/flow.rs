@@ -1,0 +1,259 @@
+//! The clock: what one cycle does to a running pipeline.
+
+use super::arithmetic::{operate, Codes};
+use super::machine::{Registers, Status, NONE};
+use super::pipeline::{Kinds, Pipeline};
+use super::stages::{fetch_stage, Accessing, Decoding, Executing, Instruction, Writing};
+use super::table::{CALL, CMOV, IRMOVQ, JXX, MRMOVQ, OPQ, POPQ, PUSHQ, RET, RMMOVQ};
+use super::word;
+
+/// The working copy of a pipelined record, for the length of a run. A stage
+/// without an instruction holds a bubble that looks like a nop; the registers
+/// are beside it, so that all the rest can stay out of memory.
+pub(super) struct Flow {
+    predicted: u64,
+    d: Decoding,
+    e: Executing,
+    m: Accessing,
+    w: Writing,
+    codes: Codes,
+    pub(super) status: Status,
+    pub(super) last: u64,
+    retired: u64,
+    pub(super) cycles: u64,
+    kinds: Kinds,
+    kept: Instruction,
+}
+
+impl Flow {
+    /// The working copy of a record.
+    pub(super) fn of(record: &Pipeline) -> Flow {
+        Flow {
+            predicted: record.predicted,
+            d: record.d.unwrap_or(Decoding::BUBBLE),
+            e: record.e.unwrap_or(Executing::BUBBLE),
+            m: record.m.unwrap_or(Accessing::BUBBLE),
+            w: record.w.unwrap_or(Writing::BUBBLE),
+            codes: record.codes,
+            status: record.status,
+            last: record.last,
+            retired: record.retired,
+            cycles: record.cycles,
+            kinds: record.kinds,
+            kept: record.kept.unwrap_or(Instruction::BUBBLE),
+        }
+    }
+
+    /// The record of a working copy and its registers.
+    pub(super) fn record(self, registers: Registers) -> Pipeline {
+        Pipeline {
+            predicted: self.predicted,
+            d: self.d.instruction.is_present().then_some(self.d),
+            e: self.e.instruction.is_present().then_some(self.e),
+            m: self.m.instruction.is_present().then_some(self.m),
+            w: self.w.instruction.is_present().then_some(self.w),
+            registers,
+            codes: self.codes,
+            status: self.status,
+            last: self.last,
+            retired: self.retired,
+            cycles: self.cycles,
+            kinds: self.kinds,
+            kept: self.kept.is_present().then_some(self.kept),
+        }
+    }
+
+    /// One clock of a running machine. Says whether an instruction retired.
+    #[inline(always)]
+    pub(super) fn advance(&mut self, registers: &mut Registers, memory: &mut [u8]) -> bool {
+        self.cycles += 1;
+        let fetch_address = self.fetch_address();
+        let retired = self.retire(registers);
+        if self.status != Status::Aok {
+            return retired;
+        }
+        let (executed, codes) = execute(&self.e, self.codes);
+        let load_use = self.load_use();
+        let mispredicted = executed.instruction.is_jump_not_taken();
+        let returning = self.returning();
+        let mut into_d = Decoding::BUBBLE;
+        if load_use {
+            into_d = self.d;
+        } else if !returning {
+            // Before the access: memory is read before the clock's write.
+            (into_d, self.predicted) = fetch_stage(memory, fetch_address);
+        }
+        let accessed = access(memory, &self.m);
+        if load_use || mispredicted {
+            self.e = Executing::BUBBLE;
+        } else {
+            self.e = self.decode(&executed, &accessed, registers);
+        }
+        self.d = into_d;
+        if mispredicted {
+            self.d = Decoding::BUBBLE;
+        }
+        self.w = accessed;
+        // A bad status in M, after its access, keeps what is in E from going
+        // on and from setting codes.
+        self.m = Accessing::BUBBLE;
+        if !accessed.instruction.is_bad() {
+            self.m = executed;
+            self.codes = codes;
+        }
+        retired
+    }
+
+    /// Where fetch reads: the way back from a wrong guess, then the word a ret
+    /// read, then the predicted address.
+    #[inline(always)]
+    fn fetch_address(&self) -> u64 {
+        if self.m.instruction.is_jump_not_taken() {
+            self.m.instruction.next()
+        } else if self.w.instruction.code() == RET {
+            self.w.loaded
+        } else {
+            self.predicted
+        }
+    }
+
+    /// Retires the instruction in W, if any. With a bad status only counts,
+    /// status and last address change.
+    ///
+    /// The registers are written before decode reads them, so the register
+    /// file stands for the last two places of the forwarding order as well.
+    #[inline(always)]
+    fn retire(&mut self, registers: &mut Registers) -> bool {
+        let instruction = self.w.instruction;
+        if !instruction.is_present() {
+            return false;
+        }
+        self.retired += 1;
+        self.last = instruction.address();
+        self.charge(&instruction);
+        if instruction.is_bad() {
+            self.status = instruction.status();
+            return true;
+        }
+        registers.set(instruction.result_target(), self.w.result);
+        registers.set(instruction.loaded_target(), self.w.loaded);
+        self.kept = instruction;
+        true
+    }
+
+    /// Charges the retiring instruction by the kept one before it; a bubble
+    /// kept, which is none, charges nothing.
+    #[inline(always)]
+    fn charge(&mut self, retiring: &Instruction) {
+        let kept = &self.kept;
+        if retiring.has_source(kept.loaded_target()) {
+            self.kinds.load_use += 1;
+        } else if kept.is_jump_not_taken() && kept.function() != 0 {
+            self.kinds.mispredict += 2;
+        } else if kept.code() == RET {
+            self.kinds.returns += 3;
+        }
+    }
+
+    /// A load in E whose register is a source in D.
+    #[inline(always)]
+    fn load_use(&self) -> bool {
+        let loaded = self.e.instruction.loaded_target();
+        self.d.instruction.has_source(loaded)
+    }
+
+    /// A ret in D, E or M.
+    #[inline(always)]
+    fn returning(&self) -> bool {
+        let in_d = self.d.instruction.code() == RET;
+        let in_e = self.e.instruction.code() == RET;
+        let in_m = self.m.instruction.code() == RET;
+        in_d | in_e | in_m
+    }
+
+    /// Decodes what is in D.
+    #[inline(always)]
+    fn decode(&self, executed: &Accessing, accessed: &Writing, registers: &Registers) -> Executing {
+        let instruction = self.d.instruction;
+        Executing {
+            instruction,
+            constant: self.d.constant,
+            a: forward(instruction.source_a(), executed, accessed, registers),
+            b: forward(instruction.source_b(), executed, accessed, registers),
+        }
+    }
+}
+
+/// The value of a source: result in E, word loaded in M, result in M, and then
+/// the registers, which W has written. Register 15 matches nothing and reads 0.
+#[inline(always)]
+fn forward(source: u8, executed: &Accessing, accessed: &Writing, registers: &Registers) -> u64 {
+    if source == NONE {
+        0
+    } else if source == executed.instruction.result_target() {
+        executed.result
+    } else if source == accessed.instruction.loaded_target() {
+        accessed.loaded
+    } else if source == accessed.instruction.result_target() {
+        accessed.result
+    } else {
+        registers.get(source)
+    }
+}
+
+/// The work of E, with the codes after it. Conditions read the codes as the
+/// clock began; only OPq sets them.
+#[inline(always)]
+fn execute(stage: &Executing, codes: Codes) -> (Accessing, Codes) {
+    let mut instruction = stage.instruction;
+    let (a, b, constant) = (stage.a, stage.b, stage.constant);
+    let mut codes_after = codes;
+    let result = match instruction.code() {
+        CMOV | JXX => {
+            instruction = instruction.decided(codes.condition(instruction.function()));
+            a
+        }
+        IRMOVQ => constant,
+        RMMOVQ | MRMOVQ => b.wrapping_add(constant),
+        OPQ => {
+            let (result, set) = operate(instruction.function(), a, b);
+            codes_after = set;
+            result
+        }
+        CALL | PUSHQ => b.wrapping_sub(8),
+        RET | POPQ => b.wrapping_add(8),
+        _ => 0,
+    };
+    let made = Accessing {
+        instruction,
+        result,
+        a,
+    };
+    (made, codes_after)
+}
+
+/// The work of M. A load outside memory reads 0, a store outside writes
+/// nothing, and either makes the status ADR.
+#[inline(always)]
+fn access(memory: &mut [u8], stage: &Accessing) -> Writing {
+    let Accessing {
+        instruction,
+        result,
+        a,
+    } = *stage;
+    let done = match instruction.code() {
+        RMMOVQ | PUSHQ => word::store(memory, result, a).map(|()| 0),
+        CALL => word::store(memory, result, instruction.next()).map(|()| 0),
+        MRMOVQ => word::load(memory, result),
+        POPQ | RET => word::load(memory, a),
+        _ => Some(0),
+    };
+    Writing {
+        instruction: match done {
+            Some(_) => instruction,
+            None => instruction.outside(),
+        },
+        result,
+        loaded: done.unwrap_or(0),
+    }
+}

@@ -1,0 +1,23 @@
+//! The independent second program: document 01's rules in plain Rust.
+//!
+//! The two engines share what an instruction looks like (table, fetch, words,
+//! arithmetic, conditions) and nothing of how it is carried out, so that each
+//! is a check on the other. `account` derives from a plain history alone what
+//! the pipeline has to show.
+
+pub mod account;
+pub mod arithmetic;
+pub mod fetch;
+mod flow;
+pub mod machine;
+pub mod pipeline;
+pub mod plain;
+pub mod replay;
+pub mod report;
+pub mod stages;
+pub mod table;
+pub mod word;
+
+pub use machine::{Refusal, Registers, Status, REGISTER_COUNT, RSP};
+pub use replay::replay;
+pub use report::y86run;

@@ -1,0 +1,143 @@
+//! The pipelined engine: five stages, one clock at a time.
+
+use super::arithmetic::Codes;
+use super::flow::Flow;
+use super::machine::{
+    check_budget, check_log, check_memory, Refusal, Registers, Status, CYCLE_LIMIT,
+};
+use super::stages::{Accessing, Decoding, Executing, Instruction, Writing};
+
+/// The cycle counts kept by kind.
+#[derive(Clone, Copy, Debug, Default, PartialEq, Eq)]
+pub struct Kinds {
+    pub load_use: u64,
+    pub mispredict: u64,
+    pub returns: u64,
+}
+
+/// The pipelined machine's record; its memory is lent at each call.
+#[derive(Clone, Copy, Debug, PartialEq, Eq)]
+pub struct Pipeline {
+    /// F holds only the predicted address.
+    pub predicted: u64,
+    /// D, E, M and W each hold an instruction, or a bubble.
+    pub d: Option<Decoding>,
+    pub e: Option<Executing>,
+    pub m: Option<Accessing>,
+    pub w: Option<Writing>,
+    pub registers: Registers,
+    pub codes: Codes,
+    pub status: Status,
+    /// The address of the last instruction retired, or the start address.
+    pub last: u64,
+    pub retired: u64,
+    pub cycles: u64,
+    pub kinds: Kinds,
+    /// The last instruction retired with AOK, for the charges.
+    pub kept: Option<Instruction>,
+}
+
+/// The two logs a caller lends: retirement addresses and their cycles.
+pub struct Logs<'a> {
+    pub addresses: &'a mut [u64],
+    pub cycles: &'a mut [u64],
+}
+
+impl Pipeline {
+    /// A fresh start: F holds the start address and the rest are bubbles.
+    pub fn fresh(registers: Registers, codes: Codes, start: u64) -> Pipeline {
+        Pipeline {
+            predicted: start,
+            d: None,
+            e: None,
+            m: None,
+            w: None,
+            registers,
+            codes,
+            status: Status::Aok,
+            last: start,
+            retired: 0,
+            cycles: 0,
+            kinds: Kinds::default(),
+            kept: None,
+        }
+    }
+
+    /// One clock: a run of 1 without logs.
+    pub fn clock(&mut self, memory: &mut [u8]) -> Result<(), Refusal> {
+        self.run(memory, 1, None)
+    }
+
+    /// Runs to a stop or to the end of the cycle budget. Place k - 1 of the
+    /// logs takes the k-th retirement of this call.
+    pub fn run(
+        &mut self,
+        memory: &mut [u8],
+        budget: u64,
+        logs: Option<Logs>,
+    ) -> Result<(), Refusal> {
+        check_memory(memory)?;
+        check_budget(self.cycles, budget, CYCLE_LIMIT)?;
+        if let Some(logs) = &logs {
+            check_log(logs.addresses, budget)?;
+            check_log(logs.cycles, budget)?;
+        }
+        self.check_record()?;
+        match logs {
+            Some(logs) => self.run_logged(memory, budget, logs),
+            None => self.run_unlogged(memory, budget),
+        }
+        Ok(())
+    }
+
+    /// The loop of a run, on a working copy of the record. What retires is
+    /// told with its address and cycle.
+    #[inline(always)]
+    fn run_loop(&mut self, memory: &mut [u8], budget: u64, mut retired: impl FnMut(u64, u64)) {
+        let mut flow = Flow::of(self);
+        let mut registers = self.registers;
+        let mut left = budget;
+        while left > 0 && flow.status == Status::Aok {
+            if flow.advance(&mut registers, memory) {
+                retired(flow.last, flow.cycles);
+            }
+            left -= 1;
+        }
+        *self = flow.record(registers);
+    }
+
+    fn run_unlogged(&mut self, memory: &mut [u8], budget: u64) {
+        self.run_loop(memory, budget, |_, _| {});
+    }
+
+    fn run_logged(&mut self, memory: &mut [u8], budget: u64, logs: Logs) {
+        let mut place = 0;
+        self.run_loop(memory, budget, |address, cycle| {
+            logs.addresses[place] = address;
+            logs.cycles[place] = cycle;
+            place += 1;
+        });
+    }
+
+    /// Refusal 5, on stopped machines too.
+    pub fn check_record(&self) -> Result<(), Refusal> {
+        let held = [
+            self.d.map(|stage| stage.instruction),
+            self.e.map(|stage| stage.instruction),
+            self.m.map(|stage| stage.instruction),
+            self.w.map(|stage| stage.instruction),
+            self.kept,
+        ];
+        let kinds = self.kinds;
+        let highest = self
+            .retired
+            .max(kinds.load_use)
+            .max(kinds.mispredict)
+            .max(kinds.returns);
+        if held.iter().flatten().all(Instruction::is_known) && highest <= self.cycles {
+            Ok(())
+        } else {
+            Err(Refusal::Record)
+        }
+    }
+}

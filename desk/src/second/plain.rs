@@ -1,0 +1,141 @@
+//! The plain engine: one instruction after the other.
+
+use super::arithmetic::{operate, Codes};
+use super::fetch::{fetch, Parts};
+use super::machine::{
+    check_budget, check_log, check_memory, Refusal, Registers, Status, PLAIN_LIMIT, RSP,
+};
+use super::table::{row_of, CALL, CMOV, IRMOVQ, JXX, MRMOVQ, OPQ, POPQ, PUSHQ, RET, RMMOVQ};
+use super::word;
+
+/// The plain machine's record; its memory is lent at each call.
+#[derive(Clone, Copy, Debug, PartialEq, Eq)]
+pub struct Plain {
+    pub registers: Registers,
+    pub codes: Codes,
+    /// The program address.
+    pub address: u64,
+    pub status: Status,
+    /// The address of the last instruction performed, or the start address.
+    pub last: u64,
+    /// Instructions performed so far.
+    pub count: u64,
+}
+
+impl Plain {
+    /// A fresh start.
+    pub fn fresh(registers: Registers, codes: Codes, start: u64) -> Plain {
+        Plain {
+            registers,
+            codes,
+            address: start,
+            status: Status::Aok,
+            last: start,
+            count: 0,
+        }
+    }
+
+    /// One step: a run of 1 without a log.
+    pub fn step(&mut self, memory: &mut [u8]) -> Result<(), Refusal> {
+        self.run(memory, 1, None)
+    }
+
+    /// Runs to a stop or to the end of the budget. The log takes the address
+    /// of the k-th instruction of this call at place k - 1.
+    pub fn run(
+        &mut self,
+        memory: &mut [u8],
+        budget: u64,
+        mut log: Option<&mut [u64]>,
+    ) -> Result<(), Refusal> {
+        check_memory(memory)?;
+        check_budget(self.count, budget, PLAIN_LIMIT)?;
+        if let Some(log) = &log {
+            check_log(log, budget)?;
+        }
+        for place in 0..budget as usize {
+            if self.status != Status::Aok {
+                break;
+            }
+            self.perform(memory);
+            if let Some(log) = &mut log {
+                log[place] = self.last;
+            }
+        }
+        Ok(())
+    }
+
+    /// Performs one instruction on a running machine. A stopping one changes
+    /// no register, byte or code, and leaves the program address.
+    pub fn perform(&mut self, memory: &mut [u8]) {
+        let outcome = fetch(memory, self.address).and_then(|parts| self.carry_out(memory, &parts));
+        self.count += 1;
+        self.last = self.address;
+        match outcome {
+            Ok(next) => self.address = next,
+            Err(status) => self.status = status,
+        }
+    }
+
+    /// Carries out an instruction fetched with AOK and gives the next program
+    /// address. Each arm makes its access first, so that a failing one leaves
+    /// everything as it was.
+    fn carry_out(&mut self, memory: &mut [u8], parts: &Parts) -> Result<u64, Status> {
+        let (ra, rb, constant) = (parts.ra, parts.rb, parts.constant);
+        let (a, b) = (self.registers.get(ra), self.registers.get(rb));
+        let next = self
+            .address
+            .wrapping_add(u64::from(row_of(parts.code).length));
+        match parts.code {
+            CMOV if self.codes.condition(parts.function) => self.registers.set(rb, a),
+            IRMOVQ => self.registers.set(rb, constant),
+            RMMOVQ => store(memory, b.wrapping_add(constant), a)?,
+            MRMOVQ => {
+                let loaded = load(memory, b.wrapping_add(constant))?;
+                self.registers.set(ra, loaded);
+            }
+            OPQ => {
+                let (result, codes) = operate(parts.function, a, b);
+                self.registers.set(rb, result);
+                self.codes = codes;
+            }
+            JXX if self.codes.condition(parts.function) => return Ok(constant),
+            CALL => {
+                self.push(memory, next)?;
+                return Ok(constant);
+            }
+            RET => return self.pop(memory),
+            PUSHQ => self.push(memory, a)?,
+            POPQ => {
+                let loaded = self.pop(memory)?;
+                self.registers.set(ra, loaded);
+            }
+            _ => {}
+        }
+        Ok(next)
+    }
+
+    /// Stores a word below the top of the stack, then lowers rsp.
+    fn push(&mut self, memory: &mut [u8], value: u64) -> Result<(), Status> {
+        let below = self.registers.get(RSP).wrapping_sub(8);
+        store(memory, below, value)?;
+        self.registers.set(RSP, below);
+        Ok(())
+    }
+
+    /// Loads the word at the top of the stack, then raises rsp.
+    fn pop(&mut self, memory: &[u8]) -> Result<u64, Status> {
+        let top = self.registers.get(RSP);
+        let loaded = load(memory, top)?;
+        self.registers.set(RSP, top.wrapping_add(8));
+        Ok(loaded)
+    }
+}
+
+fn load(memory: &[u8], address: u64) -> Result<u64, Status> {
+    word::load(memory, address).ok_or(Status::Adr)
+}
+
+fn store(memory: &mut [u8], address: u64, value: u64) -> Result<(), Status> {
+    word::store(memory, address, value).ok_or(Status::Adr)
+}

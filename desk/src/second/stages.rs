@@ -1,0 +1,297 @@
+//! What the pipeline's stages hold.
+
+use super::fetch::fetch;
+use super::machine::{Status, NONE};
+use super::table::{roles, row_of, CALL, CMOV, JXX, NOP, OPQ, POPQ};
+use std::fmt;
+
+/// An instruction with its own address, as the stages carry it, or a bubble.
+///
+/// Its registers are held by the part they play, worked out once from code,
+/// rA and rB, and all that is small is packed into one word, which the stages
+/// hand on whole. The word is private, so that no record can hold a part that
+/// the code does not give, or a false cmov with a target.
+#[derive(Clone, Copy, PartialEq, Eq)]
+pub struct Instruction {
+    address: u64,
+    word: u64,
+}
+
+/// The places of the packed fields, in bits.
+const PRESENT: u32 = 0;
+const CONDITION: u32 = 1;
+const STATUS: u32 = 4;
+const CODE: u32 = 8;
+const FUNCTION: u32 = 16;
+const SOURCE_A: u32 = 32;
+const SOURCE_B: u32 = 40;
+const RESULT_TARGET: u32 = 48;
+const LOADED_TARGET: u32 = 56;
+
+impl Instruction {
+    /// A bubble looks like a nop with AOK, so that every stage can work on it
+    /// without asking, but it does not retire.
+    pub(super) const BUBBLE: Instruction = Instruction {
+        address: 0,
+        word: 1 << CONDITION
+            | (Status::Aok as u64) << STATUS
+            | (NOP as u64) << CODE
+            | 0x0f0f_0f0f << SOURCE_A,
+    };
+
+    /// An instruction as fetch hands it on, with the status of its fetch.
+    /// One with a bad fetch status has no sources, whatever its code says.
+    #[inline(always)]
+    pub fn new(
+        address: u64,
+        (code, function): (u8, u8),
+        (ra, rb): (u8, u8),
+        status: Status,
+    ) -> Instruction {
+        let mut roles = u64::from(roles(code, ra, rb));
+        if status != Status::Aok {
+            roles = roles & !0xffff | u64::from(NONE) << 8 | u64::from(NONE);
+        }
+        let word = 1 << PRESENT
+            | 1 << CONDITION
+            | status.number() << STATUS
+            | u64::from(code) << CODE
+            | u64::from(function) << FUNCTION
+            | roles << SOURCE_A;
+        Instruction { address, word }
+    }
+
+    /// The instruction with its condition decided, as M, W and the kept one
+    /// hold it; a false cmov has no target.
+    #[inline(always)]
+    pub fn decided(mut self, condition: bool) -> Instruction {
+        self.word = self.word & !(1 << CONDITION) | u64::from(condition) << CONDITION;
+        if !condition && self.code() == CMOV {
+            self.word |= u64::from(NONE) << RESULT_TARGET;
+        }
+        self
+    }
+
+    /// The instruction with an access outside memory.
+    #[inline(always)]
+    pub fn outside(mut self) -> Instruction {
+        self.word = self.word & !(15 << STATUS) | Status::Adr.number() << STATUS;
+        self
+    }
+
+    /// Whether this is an instruction and not a bubble.
+    #[inline(always)]
+    pub(super) fn is_present(&self) -> bool {
+        self.word & 1 << PRESENT != 0
+    }
+
+    #[inline(always)]
+    fn byte(&self, place: u32) -> u8 {
+        (self.word >> place) as u8
+    }
+
+    #[inline(always)]
+    pub fn address(&self) -> u64 {
+        self.address
+    }
+
+    /// The address after this instruction.
+    #[inline(always)]
+    pub fn next(&self) -> u64 {
+        let length = row_of(self.code()).length;
+        self.address.wrapping_add(u64::from(length))
+    }
+
+    #[inline(always)]
+    pub fn code(&self) -> u8 {
+        self.byte(CODE)
+    }
+
+    #[inline(always)]
+    pub fn function(&self) -> u8 {
+        self.byte(FUNCTION)
+    }
+
+    #[inline(always)]
+    pub fn status(&self) -> Status {
+        match self.byte(STATUS) & 15 {
+            1 => Status::Aok,
+            2 => Status::Hlt,
+            3 => Status::Adr,
+            _ => Status::Ins,
+        }
+    }
+
+    #[inline(always)]
+    pub fn is_bad(&self) -> bool {
+        u64::from(self.byte(STATUS) & 15) != Status::Aok.number()
+    }
+
+    #[inline(always)]
+    pub fn condition(&self) -> bool {
+        self.word & 1 << CONDITION != 0
+    }
+
+    /// The register whose value decode takes as A.
+    #[inline(always)]
+    pub fn source_a(&self) -> u8 {
+        self.byte(SOURCE_A)
+    }
+
+    /// The register whose value decode takes as B.
+    #[inline(always)]
+    pub fn source_b(&self) -> u8 {
+        self.byte(SOURCE_B)
+    }
+
+    /// The register that takes the result of execute.
+    #[inline(always)]
+    pub fn result_target(&self) -> u8 {
+        self.byte(RESULT_TARGET)
+    }
+
+    /// The register that takes the word loaded from memory.
+    #[inline(always)]
+    pub fn loaded_target(&self) -> u8 {
+        self.byte(LOADED_TARGET)
+    }
+
+    /// A jump whose condition was false.
+    #[inline(always)]
+    pub fn is_jump_not_taken(&self) -> bool {
+        const DECIDES: u64 = 0xff << CODE | 1 << CONDITION;
+        self.word & DECIDES == (JXX as u64) << CODE
+    }
+
+    /// Whether a register is one of the sources; 15 matches nothing.
+    #[inline(always)]
+    pub fn has_source(&self, register: u8) -> bool {
+        register != NONE && (register == self.source_a() || register == self.source_b())
+    }
+
+    /// Whether a record may hold this: registers up to 15, a code that has
+    /// functions in the table; the function is looked at for moves, jumps and
+    /// OPq alone.
+    pub fn is_known(&self) -> bool {
+        let registers = [
+            self.source_a(),
+            self.source_b(),
+            self.result_target(),
+            self.loaded_target(),
+        ];
+        let function_fits = match self.code() {
+            CMOV | JXX | OPQ => self.function() < row_of(self.code()).functions,
+            _ => true,
+        };
+        self.code() <= POPQ && function_fits && registers.iter().all(|number| *number <= NONE)
+    }
+}
+
+impl fmt::Debug for Instruction {
+    fn fmt(&self, formatter: &mut fmt::Formatter) -> fmt::Result {
+        formatter
+            .debug_struct("Instruction")
+            .field("address", &self.address)
+            .field("code", &self.code())
+            .field("function", &self.function())
+            .field("sources", &(self.source_a(), self.source_b()))
+            .field("result_target", &self.result_target())
+            .field("loaded_target", &self.loaded_target())
+            .field("status", &self.status())
+            .field("condition", &self.condition())
+            .finish()
+    }
+}
+
+/// What D holds: an instruction with its constant.
+#[derive(Clone, Copy, Debug, PartialEq, Eq)]
+pub struct Decoding {
+    pub instruction: Instruction,
+    pub constant: u64,
+}
+
+/// What E holds: the values decode took, and the constant.
+#[derive(Clone, Copy, Debug, PartialEq, Eq)]
+pub struct Executing {
+    pub instruction: Instruction,
+    pub constant: u64,
+    pub a: u64,
+    pub b: u64,
+}
+
+/// What M holds: what execute made of the instruction. `a` is the word that a
+/// store writes, or the address that popq and ret read from.
+#[derive(Clone, Copy, Debug, PartialEq, Eq)]
+pub struct Accessing {
+    pub instruction: Instruction,
+    pub result: u64,
+    pub a: u64,
+}
+
+/// What W holds, with the word loaded (0 where none was).
+#[derive(Clone, Copy, Debug, PartialEq, Eq)]
+pub struct Writing {
+    pub instruction: Instruction,
+    pub result: u64,
+    pub loaded: u64,
+}
+
+impl Decoding {
+    pub(super) const BUBBLE: Decoding = Decoding::new(Instruction::BUBBLE, 0);
+
+    #[inline(always)]
+    pub const fn new(instruction: Instruction, constant: u64) -> Decoding {
+        Decoding {
+            instruction,
+            constant,
+        }
+    }
+}
+
+impl Executing {
+    pub(super) const BUBBLE: Executing = Executing {
+        instruction: Instruction::BUBBLE,
+        constant: 0,
+        a: 0,
+        b: 0,
+    };
+}
+
+impl Accessing {
+    pub(super) const BUBBLE: Accessing = Accessing {
+        instruction: Instruction::BUBBLE,
+        result: 0,
+        a: 0,
+    };
+}
+
+impl Writing {
+    pub(super) const BUBBLE: Writing = Writing {
+        instruction: Instruction::BUBBLE,
+        result: 0,
+        loaded: 0,
+    };
+}
+
+/// Fetches what goes into D, and predicts the address after it: call and jXX
+/// go to C, others to the next address. One fetched with a bad status travels
+/// as a nop with that status, and predicts its own address.
+#[inline(always)]
+pub(super) fn fetch_stage(memory: &[u8], address: u64) -> (Decoding, u64) {
+    match fetch(memory, address) {
+        Ok(parts) => {
+            let (code, constant) = (parts.code, parts.constant);
+            let named = (parts.ra, parts.rb);
+            let instruction = Instruction::new(address, (code, parts.function), named, Status::Aok);
+            let predicted = match code {
+                CALL | JXX => constant,
+                _ => instruction.next(),
+            };
+            (Decoding::new(instruction, constant), predicted)
+        }
+        Err(status) => {
+            let nop = Instruction::new(address, (NOP, 0), (NONE, NONE), status);
+            (Decoding::new(nop, 0), address)
+        }
+    }
+}

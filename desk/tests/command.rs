@@ -1,0 +1,238 @@
+//! The desk program as an inspector meets it.
+
+use desk::programs::{from_hex, listing_001};
+use std::path::PathBuf;
+use std::process::{Command, Output, Stdio};
+
+/// A file for one test, which no other test names.
+fn file(name: &str, bytes: &[u8]) -> String {
+    let folder = PathBuf::from(env!("CARGO_TARGET_TMPDIR")).join("command");
+    std::fs::create_dir_all(&folder).expect("a folder");
+    let path = folder.join(name);
+    std::fs::write(&path, bytes).expect("a file");
+    path.to_str().expect("a name in UTF-8").into()
+}
+
+fn desk(words: &[&str]) -> Output {
+    Command::new(env!("CARGO_BIN_EXE_desk"))
+        .args(words)
+        .output()
+        .expect("the desk program")
+}
+
+/// Exit status, standard output and standard error.
+fn said(words: &[&str]) -> (i32, String, String) {
+    let output = desk(words);
+    let text = |bytes: Vec<u8>| String::from_utf8(bytes).expect("text");
+    let status = output.status.code().expect("an exit status");
+    (status, text(output.stdout), text(output.stderr))
+}
+
+/// A command that is at fault: nothing on standard output, and a message that
+/// says these things.
+fn fault(words: &[&str], status: i32, says: &[&str]) {
+    let (code, output, message) = said(words);
+    assert_eq!((code, output.as_str()), (status, ""), "{words:?}");
+    assert!(message.starts_with("desk: "), "{message}");
+    for part in says {
+        assert!(message.contains(part), "{words:?}: {message}");
+    }
+}
+
+const SHOWN: &str = "\
+status   HLT (2): the image halted
+last     0x40 (64)
+codes    0 (ZF 0, SF 0, OF 0)
+retired  11
+cycles   20
+registers that are not 0:
+  rax  0x9 (9)
+  rdx  0x9 (9)
+  rbx  0xc (12)
+  rsp  0x80 (128)
+words changed in memory (address, before, after):
+  0x70 (112)      0x0000000000000000  0x0000000000000080
+  0x78 (120)      0x0000000000000000  0x0000000000000040
+";
+
+#[test]
+fn a_replay_is_shown_in_words_and_numbers() {
+    let image = file("listing.img", &listing_001());
+    assert_eq!(said(&["replay", &image]), (0, SHOWN.into(), String::new()));
+    let second = said(&["replay", "--second", &image]);
+    assert_eq!(second, (0, SHOWN.into(), String::new()));
+    assert_eq!(std::fs::read(&image).expect("the image"), listing_001());
+}
+
+#[test]
+fn the_exit_status_tells_the_outcome() {
+    let cases = [
+        ("halt", "00", 0, "HLT (2)"),
+        (
+            "spent",
+            "700000000000000000",
+            1,
+            "AOK (1): the budget of 4000",
+        ),
+        ("address", "10", 2, "ADR (3)"),
+        ("instruction", "c0", 3, "INS (4)"),
+    ];
+    for (name, image, status, says) in cases {
+        let path = file(name, &from_hex(image));
+        let (code, output, message) = said(&["replay", &path]);
+        assert_eq!((code, message.as_str()), (status, ""), "{name}");
+        assert!(output.contains(says), "{output}");
+        assert!(output.contains("registers: all 0\nmemory: as it was\n"));
+    }
+}
+
+/// The options in any place, numbers in two ways, and a last word cut at N.
+#[test]
+fn options_are_taken() {
+    // From 1: xorq %rax, %rax; rmmovq %rbx, 14(%rax); halt
+    let code = "c0 6300 40300e00000000000000 00 000000000000000000";
+    let image = file("options.img", &from_hex(code));
+    let mut block = [0; 120];
+    block[0] = 7;
+    block[24..32].copy_from_slice(&0x1122_3344_5566_7788_u64.to_le_bytes());
+    let registers = file("registers", &block);
+    let given = ["--codes=0", "--registers", &registers, "--start", "0x1"];
+    let (code, output, _) = said(&[&["replay"], &given[..], &[&image]].concat());
+    assert_eq!(code, 0, "{output}");
+    for says in [
+        "last     0xd (13)\ncodes    4 (ZF 1, SF 0, OF 0)\nretired  3\ncycles   7\n",
+        "not 0:\n  rbx  0x1122334455667788 (1234605616436508552)\n",
+        "  0x8 (8)         0x0000000000000000  0x7788000000000000\n",
+        "  0x10 (16)       0x00000000000000    0x00112233445566\n",
+    ] {
+        assert!(output.contains(says), "{output}");
+    }
+    let words = [&["replay", &image][..], &given[..], &["--budget", "2"]].concat();
+    let (code, output, _) = said(&words);
+    assert_eq!(code, 1);
+    assert!(output.contains("codes    0"), "{output}");
+    assert!(output.contains("last     0x1 (1)"), "{output}");
+}
+
+#[test]
+fn files_that_cannot_be_read_are_explained() {
+    let image = file("fine.img", &[0]);
+    let folder = env!("CARGO_MANIFEST_DIR");
+    fault(
+        &["replay", "no/such.img"],
+        66,
+        &["no/such.img", "no such file"],
+    );
+    fault(&["replay", folder], 66, &[folder, "directory"]);
+    let words = ["replay", &image, "--registers", "no/such"];
+    fault(&words, 66, &["no/such", "no such file"]);
+    fault(
+        &["replay", &image, "--registers", folder],
+        66,
+        &["directory"],
+    );
+}
+
+#[test]
+fn refusals_are_explained_with_their_numbers() {
+    let empty = file("empty.img", &[]);
+    let image = file("one.img", &[0]);
+    let long = file("long.img", &vec![0; 4_097]);
+    let longer = file("longer.img", &vec![0; 100_000]);
+    fault(&["replay", &empty], 10, &["(1)", "is empty", "1 to 4,096"]);
+    fault(&["replay", &long], 10, &["(1)", "4097", "1 to 4,096"]);
+    fault(&["replay", &longer], 10, &["(1)", "100000 bytes"]);
+    fault(&["replay", "/dev/zero"], 10, &["(1)", "4097 bytes or more"]);
+    fault(
+        &["replay", &image, "--registers", &long],
+        10,
+        &["(2)", "120"],
+    );
+    fault(
+        &["replay", &image, "--registers", &empty],
+        10,
+        &["(2)", "empty"],
+    );
+    fault(&["replay", &image, "--budget", "0"], 10, &["(3)", "262145"]);
+    fault(&["replay", &image, "--budget", "262146"], 10, &["(3)"]);
+    fault(&["replay", &image, "--codes", "8"], 10, &["(5)", "0 to 7"]);
+    let several = ["replay", &empty, "--codes", "8", "--budget", "0"];
+    fault(&several, 10, &["(1)"]);
+    fault(&[&several[..], &["--second"]].concat(), 10, &["(1)"]);
+}
+
+#[test]
+fn commands_at_fault_are_explained() {
+    let image = file("any.img", &[0]);
+    let bad = |word| ["replay", image.as_str(), "--start", word];
+    for word in ["", "x", "0x", "-1", "+1", "12x", "0xg", "1.5", "0X1"] {
+        fault(
+            &bad(word),
+            64,
+            &["--start", word, "decimal, or hex after 0x"],
+        );
+    }
+    fault(&bad("18446744073709551616"), 64, &["64 bits"]);
+    fault(&bad("0x10000000000000000"), 64, &["64 bits"]);
+    fault(&[], 64, &["replay or bench"]);
+    fault(&["play"], 64, &["'play'", "replay and bench"]);
+    fault(&["replay"], 64, &["image"]);
+    fault(&["replay", &image, &image], 64, &["one image"]);
+    fault(
+        &["replay", &image, "--start"],
+        64,
+        &["--start wants a value"],
+    );
+    fault(&["replay", &image, "--steps", "1"], 64, &["--steps"]);
+    let twice = ["replay", &image, "--codes", "1", "--codes", "1"];
+    fault(&twice, 64, &["--codes is given twice"]);
+    fault(&["bench", "fast"], 64, &["--instructions"]);
+    fault(
+        &["bench", "--once", "third", "stores", "9"],
+        64,
+        &["engine"],
+    );
+}
+
+#[test]
+fn help_is_at_hand() {
+    for words in [&["--help"][..], &["replay", "--help"], &["bench", "-h"]] {
+        let (code, output, message) = said(words);
+        assert_eq!((code, message.as_str()), (0, ""));
+        for says in [
+            "--start",
+            "--codes",
+            "--budget",
+            "--registers",
+            "exit status",
+        ] {
+            assert!(output.contains(says));
+        }
+    }
+}
+
+#[test]
+fn the_bench_replays_by_both() {
+    for engine in ["product", "second"] {
+        for program in ["listing", "stores"] {
+            let (code, output, _) = said(&["bench", "--once", engine, program, "3000"]);
+            assert_eq!((code, output.as_str()), (0, ""));
+        }
+    }
+}
+
+/// A reader that has gone is told of, and not by a panic.
+#[test]
+fn output_that_cannot_be_written_is_a_fault() {
+    let image = file("full.img", &[0]);
+    let full = std::fs::File::create("/dev/full").expect("/dev/full");
+    let output = Command::new(env!("CARGO_BIN_EXE_desk"))
+        .args(["replay", &image])
+        .stdout(Stdio::from(full))
+        .output()
+        .expect("the desk program");
+    assert_eq!(output.status.code(), Some(74));
+    assert!(output
+        .stderr
+        .starts_with(b"desk: the output could not be written"));
+}

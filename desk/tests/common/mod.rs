@@ -1,0 +1,76 @@
+//! Short ways to start the two engines.
+#![allow(dead_code)]
+
+use desk::second::arithmetic::Codes;
+use desk::second::machine::{Registers, RSP};
+use desk::second::pipeline::{Logs, Pipeline};
+use desk::second::plain::Plain;
+
+/// The codes given as 4ZF + 2SF + OF.
+pub fn codes(number: u64) -> Codes {
+    Codes::from_number(number).expect("codes up to 7")
+}
+
+/// Registers that are 0 but for some.
+pub fn registers(given: &[(u8, u64)]) -> Registers {
+    let mut registers = Registers::default();
+    for (number, value) in given {
+        registers.set(*number, *value);
+    }
+    registers
+}
+
+/// What a whole pipelined run leaves.
+pub struct Ran {
+    pub machine: Pipeline,
+    pub memory: Vec<u8>,
+    pub addresses: Vec<u64>,
+    pub cycles: Vec<u64>,
+}
+
+impl Ran {
+    /// The three kinds: load-use, mispredict, return.
+    pub fn kinds(&self) -> (u64, u64, u64) {
+        let kinds = self.machine.kinds;
+        (kinds.load_use, kinds.mispredict, kinds.returns)
+    }
+}
+
+/// A pipelined run of at most 4,000 cycles from address 0, ZF=1.
+pub fn run_pipeline(image: &[u8], given: Registers) -> Ran {
+    let mut memory = image.to_vec();
+    let mut machine = Pipeline::fresh(given, codes(4), 0);
+    let (mut addresses, mut cycles) = (vec![0; 4_000], vec![0; 4_000]);
+    let logs = Logs {
+        addresses: &mut addresses,
+        cycles: &mut cycles,
+    };
+    machine.run(&mut memory, 4_000, Some(logs)).expect("a run");
+    addresses.truncate(machine.retired as usize);
+    cycles.truncate(machine.retired as usize);
+    Ran {
+        machine,
+        memory,
+        addresses,
+        cycles,
+    }
+}
+
+/// A plain run of at most 4,000 instructions from address 0, ZF=1.
+pub fn run_plain(image: &[u8], given: Registers) -> (Plain, Vec<u8>) {
+    let mut memory = image.to_vec();
+    let mut machine = Plain::fresh(given, codes(4), 0);
+    machine.run(&mut memory, 4_000, None).expect("a run");
+    (machine, memory)
+}
+
+/// The stack pointer of a record's registers.
+pub fn rsp(registers: &Registers) -> u64 {
+    registers.get(RSP)
+}
+
+/// The word at an address inside memory.
+pub fn word(memory: &[u8], address: usize) -> u64 {
+    let bytes = &memory[address..address + 8];
+    u64::from_le_bytes(bytes.try_into().expect("eight bytes"))
+}

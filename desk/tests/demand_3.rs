@@ -1,0 +1,227 @@
+//! Within the premise, the pipelined engine meets the account of the plain
+//! engine's history; and running a then b clocks equals running a + b.
+
+mod common;
+
+use common::codes;
+use desk::generate::{Case, Generator, Kind};
+use desk::second::account::{Account, Kind as Charge};
+use desk::second::machine::Status;
+use desk::second::pipeline::{Kinds, Logs, Pipeline};
+use desk::second::plain::Plain;
+use desk::second::replay::read_registers;
+
+/// Programs of each kind that the account is tried on.
+const PROGRAMS: usize = 6_000;
+/// Instructions of a history; enough for every charge to come up.
+const MOST: usize = 120;
+
+/// What the programs of one kind showed.
+#[derive(Debug, Default)]
+struct Seen {
+    whole: usize,
+    cut: usize,
+    retired: u64,
+    charged: [u64; 3],
+    stops: [usize; 5],
+}
+
+/// The plain engine, brought along instruction by instruction.
+struct Follower {
+    machine: Plain,
+    memory: Vec<u8>,
+}
+
+impl Follower {
+    fn new(case: &Case) -> Follower {
+        let registers = read_registers(&case.registers);
+        Follower {
+            machine: Plain::fresh(registers, codes(case.codes), case.start),
+            memory: case.image.clone(),
+        }
+    }
+
+    fn reach(&mut self, count: usize) {
+        while self.machine.count < count as u64 {
+            self.machine.perform(&mut self.memory);
+        }
+    }
+}
+
+#[test]
+fn the_pipeline_meets_the_account() {
+    for kind in Kind::ALL {
+        if kind == Kind::Refusals {
+            continue;
+        }
+        let mut generator = Generator::new(31 + kind as u64);
+        let mut seen = Seen::default();
+        for _ in 0..PROGRAMS {
+            compare(&generator.case_of(kind), &mut seen);
+        }
+        println!("{}: {seen:?}", kind.name());
+        assert!(seen.whole > PROGRAMS / 8, "{} {seen:?}", kind.name());
+        assert!(seen.stops[2..].iter().all(|stops| *stops > 0));
+        if kind != Kind::RandomBytes {
+            assert!(seen.charged.iter().all(|cycles| *cycles > 20));
+        }
+    }
+}
+
+/// Runs the pipeline clock by clock against the account of the plain history.
+fn compare(case: &Case, seen: &mut Seen) {
+    let mut whole = Follower::new(case);
+    let account = Account::of(&mut whole.machine, &mut whole.memory, MOST);
+    let reach = account.premise_reach();
+    let over = account.stopped && reach == account.performed.len();
+    let last_clock = match reach {
+        0 => 0,
+        reach => account.performed[reach - 1].due + if over { 3 } else { 0 },
+    };
+    let mut memory = case.image.clone();
+    let registers = read_registers(&case.registers);
+    let mut machine = Pipeline::fresh(registers, codes(case.codes), case.start);
+    let mut plain = [
+        Follower::new(case),
+        Follower::new(case),
+        Follower::new(case),
+    ];
+    for clock in 1..=last_clock {
+        machine.clock(&mut memory).expect("a clock");
+        compare_clock(&account, &machine, clock, &mut plain[0]);
+        compare_ahead(&account, (&machine, &memory), clock, &mut plain[1..]);
+    }
+    if over {
+        compare_end(&machine, &memory, &whole, &account);
+        seen.stops[machine.status.number() as usize] += 1;
+    }
+    seen.whole += usize::from(over);
+    seen.cut += usize::from(!over);
+    seen.retired += machine.retired;
+    let kinds = machine.kinds;
+    let charged = [kinds.load_use, kinds.mispredict, kinds.returns];
+    for (sum, cycles) in seen.charged.iter_mut().zip(charged) {
+        *sum += cycles;
+    }
+}
+
+/// After a clock: what has retired, when, the charges and the registers.
+fn compare_clock(account: &Account, machine: &Pipeline, clock: u64, plain: &mut Follower) {
+    let due = account.due_by(clock);
+    plain.reach(due);
+    assert_eq!(machine.retired, due as u64);
+    assert_eq!(machine.registers, plain.machine.registers);
+    assert_eq!(machine.status, plain.machine.status);
+    assert_eq!(machine.last, plain.machine.last);
+    let kinds = Kinds {
+        load_use: account.charged(Charge::LoadUse, due),
+        mispredict: account.charged(Charge::Mispredict, due),
+        returns: account.charged(Charge::Return, due),
+    };
+    assert_eq!(machine.kinds, kinds);
+    let stopped = machine.status != Status::Aok;
+    let cycles = match account.performed[..due].last() {
+        Some(last) if stopped => last.due,
+        _ => clock,
+    };
+    assert_eq!(machine.cycles, cycles);
+    if let (Some(last), true) = (account.performed[..due].last(), due > 0) {
+        let charges = kinds.load_use + kinds.mispredict + kinds.returns;
+        assert_eq!(last.due, due as u64 + 4 + charges);
+        assert!(last.due <= 4 * due as u64 + 1);
+    }
+}
+
+/// In mid-run memory is the plain engine's after the instructions due by the
+/// next clock, and codes are those after the ones due by the clock after it.
+fn compare_ahead(
+    account: &Account,
+    (machine, memory): (&Pipeline, &[u8]),
+    clock: u64,
+    plain: &mut [Follower],
+) {
+    let reach = account.premise_reach();
+    plain[0].reach(account.due_by(clock + 1).min(reach));
+    plain[1].reach(account.due_by(clock + 2).min(reach));
+    if account.due_by(clock + 2) <= reach {
+        assert_eq!(machine.codes, plain[1].machine.codes);
+        assert!(memory == plain[0].memory);
+    }
+}
+
+fn compare_end(machine: &Pipeline, memory: &[u8], plain: &Follower, account: &Account) {
+    assert!(memory == plain.memory);
+    assert_eq!(machine.registers, plain.machine.registers);
+    assert_eq!(machine.codes, plain.machine.codes);
+    assert_eq!(machine.status, plain.machine.status);
+    assert_eq!(machine.last, plain.machine.last);
+    assert_eq!(machine.retired, account.performed.len() as u64);
+}
+
+/// A run with logs; gives the record, the memory and the two logs.
+fn logged(case: &Case, budgets: &[u64]) -> (Pipeline, Vec<u8>, Vec<u64>, Vec<u64>) {
+    let registers = read_registers(&case.registers);
+    let mut machine = Pipeline::fresh(registers, codes(case.codes), case.start);
+    let mut memory = case.image.clone();
+    let (mut addresses, mut cycles) = (Vec::new(), Vec::new());
+    for budget in budgets {
+        let before = machine.retired;
+        let (mut lent_a, mut lent_c) = (vec![1; *budget as usize], vec![2; *budget as usize]);
+        let logs = Logs {
+            addresses: &mut lent_a,
+            cycles: &mut lent_c,
+        };
+        machine
+            .run(&mut memory, *budget, Some(logs))
+            .expect("a run");
+        let retired = (machine.retired - before) as usize;
+        assert!(lent_a[retired..].iter().all(|word| *word == 1));
+        assert!(lent_c[retired..].iter().all(|word| *word == 2));
+        addresses.extend(&lent_a[..retired]);
+        cycles.extend(&lent_c[..retired]);
+    }
+    (machine, memory, addresses, cycles)
+}
+
+#[test]
+fn running_a_then_b_equals_a_and_b() {
+    let mut generator = Generator::new(5);
+    let mut compared = 0;
+    while compared < 6_000 {
+        let case = generator.case();
+        if case.kind == Kind::Refusals {
+            continue;
+        }
+        let (a, b) = (1 + case.budget % 61, 1 + case.budget % 97);
+        let joined = logged(&case, &[a + b]);
+        assert!(joined == logged(&case, &[a, b]));
+        let mut memory = case.image.clone();
+        let registers = read_registers(&case.registers);
+        let mut machine = Pipeline::fresh(registers, codes(case.codes), case.start);
+        for _ in 0..a + b {
+            machine.clock(&mut memory).expect("a clock");
+        }
+        assert!((machine, memory) == (joined.0, joined.1));
+        compared += 1;
+    }
+}
+
+/// The logs against the account, for programs that stop within the premise.
+#[test]
+fn logs_show_the_account() {
+    let mut generator = Generator::new(6);
+    for _ in 0..6_000 {
+        let case = generator.case_of(Kind::Charges);
+        let mut whole = Follower::new(&case);
+        let account = Account::of(&mut whole.machine, &mut whole.memory, MOST);
+        let reach = account.premise_reach();
+        if reach == 0 {
+            continue;
+        }
+        let budget = account.performed[reach - 1].due;
+        let (_, _, addresses, cycles) = logged(&case, &[budget]);
+        let first = account.performed[..reach].iter();
+        assert!(first.clone().map(|one| one.address).eq(addresses));
+        assert!(first.map(|one| one.due).eq(cycles));
+    }
+}

@@ -1,0 +1,313 @@
+//! Document 01's cases and figures, and the readings that have figures.
+
+mod common;
+
+use common::{codes, registers, rsp, run_pipeline, run_plain, word};
+use desk::programs::{figure_4_8, from_hex, listing_001, listing_004, stretched_004};
+use desk::second::account::Account;
+use desk::second::arithmetic::operate;
+use desk::second::machine::Registers;
+use desk::second::pipeline::{Logs, Pipeline};
+use desk::second::plain::Plain;
+use desk::second::word;
+use desk::second::{y86run, Status, RSP};
+
+const LEAST: u64 = 1 << 63;
+
+/// P1 to P6: image, status, last address, retired, cycles.
+#[test]
+fn p1_to_p6_stop_as_stated() {
+    let cases = [
+        ("00", Status::Hlt, 0, 1, 5),
+        ("10", Status::Adr, 1, 2, 6),
+        ("c0", Status::Ins, 0, 1, 5),
+        ("64", Status::Ins, 0, 1, 5),
+        ("60", Status::Adr, 0, 1, 5),
+        ("60f0", Status::Ins, 0, 1, 5),
+    ];
+    for (image, status, last, retired, cycles) in cases {
+        let image = from_hex(image);
+        let ran = run_pipeline(&image, Registers::default());
+        let machine = ran.machine;
+        assert_eq!((machine.status, machine.last), (status, last), "{image:x?}");
+        assert_eq!((machine.retired, machine.cycles), (retired, cycles));
+        let (plain, _) = run_plain(&image, Registers::default());
+        assert_eq!(
+            (plain.status, plain.last, plain.count),
+            (status, last, retired)
+        );
+        assert_eq!(plain.address, last, "the program address stays");
+    }
+}
+
+#[test]
+fn p7_words_at_the_end() {
+    for size in 8..40_u64 {
+        let mut memory = vec![7; size as usize];
+        assert!(word::load(&memory, size - 8).is_some());
+        assert!(word::store(&mut memory, size - 8, 1).is_some());
+        for outside in [size - 7, size, u64::MAX - 7, u64::MAX - 6, u64::MAX] {
+            let before = memory.clone();
+            assert!(word::load(&memory, outside).is_none());
+            assert!(word::store(&mut memory, outside, 1).is_none());
+            assert_eq!(memory, before);
+        }
+    }
+}
+
+#[test]
+fn p8_and_p9_overflow_of_subtraction() {
+    let (result, set) = operate(1, 1, LEAST);
+    assert_eq!(
+        (result, set.overflow(), set.sign()),
+        (LEAST - 1, true, false)
+    );
+    assert!(set.condition(2), "P8: l is true");
+    let (result, set) = operate(1, LEAST, 0);
+    assert_eq!((result, set.overflow(), set.sign()), (LEAST, true, true));
+    assert!(!set.condition(2), "P9: l is false");
+}
+
+/// Overflow against the true signed result, at the ends and around 0.
+#[test]
+fn overflow_is_the_true_results() {
+    let ends = [0, 1, 2, u64::MAX, u64::MAX - 1, LEAST, LEAST + 1, LEAST - 1];
+    for a in ends {
+        for b in ends {
+            let (wide_a, wide_b) = (i128::from(a as i64), i128::from(b as i64));
+            let truths = [wide_b + wide_a, wide_b - wide_a];
+            for (function, truth) in truths.into_iter().enumerate() {
+                let (result, set) = operate(function as u8, a, b);
+                let outside = truth < i128::from(i64::MIN) || truth > i128::from(i64::MAX);
+                assert_eq!(set.overflow(), outside, "{function} {a:x} {b:x}");
+                assert_eq!(result, truth as u64);
+            }
+        }
+    }
+}
+
+#[test]
+fn conditions_are_the_seven_decisions() {
+    for number in 0..8 {
+        let set = codes(number);
+        let less = set.sign() != set.overflow();
+        let truths = [
+            true,
+            less || set.zero(),
+            less,
+            set.zero(),
+            !set.zero(),
+            !less,
+            !less && !set.zero(),
+        ];
+        for (function, truth) in truths.into_iter().enumerate() {
+            assert_eq!(set.condition(function as u8), truth);
+        }
+        assert_eq!(set.number(), number);
+    }
+}
+
+#[test]
+fn p10_pushq_rsp_and_popq_rsp() {
+    let mut image = from_hex("a04f 00");
+    image.resize(32, 0);
+    let given = registers(&[(RSP, 32)]);
+    let ran = run_pipeline(&image, given);
+    assert_eq!(
+        (rsp(&ran.machine.registers), word(&ran.memory, 24)),
+        (24, 32)
+    );
+    assert_eq!(run_plain(&image, given).1, ran.memory);
+
+    let mut image = from_hex("b04f 00");
+    image.resize(32, 0);
+    image[16] = 77;
+    let given = registers(&[(RSP, 16)]);
+    let ran = run_pipeline(&image, given);
+    assert_eq!(rsp(&ran.machine.registers), 77);
+    assert_eq!(rsp(&run_plain(&image, given).0.registers), 77);
+}
+
+#[test]
+fn p11_popq_rsp_before_ret() {
+    let mut image = from_hex("b04f 90 00");
+    image.resize(32, 0);
+    image[8] = 16; // popq takes rsp = 16 from here,
+    image[16] = 3; // and ret goes to the halt.
+    let ran = run_pipeline(&image, registers(&[(RSP, 8)]));
+    assert_eq!(ran.addresses, [0, 2, 3]);
+    assert_eq!(ran.cycles, [5, 7, 11]);
+    assert_eq!(ran.kinds(), (1, 0, 3));
+    assert_eq!(rsp(&ran.machine.registers), 24);
+}
+
+#[test]
+fn listing_of_001() {
+    let ran = run_pipeline(&listing_001(), Registers::default());
+    let machine = ran.machine;
+    assert_eq!((machine.status, machine.last), (Status::Hlt, 0x40));
+    assert_eq!((machine.retired, machine.cycles), (11, 20));
+    let registers = machine.registers.0;
+    assert_eq!((registers[0], registers[3], registers[4]), (9, 12, 128));
+    assert_eq!(word(&ran.memory, 120), 64);
+    assert_eq!(ran.kinds(), (0, 2, 3));
+    assert_eq!(run_plain(&listing_001(), Registers::default()).0.count, 11);
+}
+
+#[test]
+fn listing_of_004() {
+    let ran = run_pipeline(&listing_004(), Registers::default());
+    let machine = ran.machine;
+    assert_eq!((machine.status, machine.last), (Status::Hlt, 0x13));
+    assert_eq!((machine.retired, machine.cycles), (33, 52));
+    assert_eq!(ran.kinds(), (5, 4, 6));
+    // The changes that the source document shows.
+    let expected = registers(&[(0, 4), (4, 0x100), (7, 0x38), (8, 1), (9, 8)]);
+    assert_eq!(machine.registers, expected);
+    assert_eq!(word(&ran.memory, 0xf0), 0x53);
+    assert_eq!(word(&ran.memory, 0xf8), 0x13);
+    assert_eq!(machine.codes.number(), 4);
+    let ran = run_pipeline(&stretched_004(), Registers::default());
+    assert_eq!(ran.machine.registers.0[0], 400);
+}
+
+/// The program of CS:APP's figure 4.8, with the figures its simulator prints.
+#[test]
+fn program_of_figure_4_8() {
+    let ran = run_pipeline(&figure_4_8(), Registers::default());
+    assert_eq!((ran.machine.status, ran.machine.last), (Status::Hlt, 0x13));
+    assert_eq!((ran.machine.retired, ran.machine.codes.number()), (34, 4));
+    let sum = 0xabcd_abcd_abcd;
+    let expected = [
+        (0, sum),
+        (4, 0x200),
+        (7, 0x38),
+        (8, 8),
+        (9, 1),
+        (10, 0xa000_a000_a000),
+    ];
+    assert_eq!(ran.machine.registers, registers(&expected));
+    assert_eq!(word(&ran.memory, 0x1f0), 0x55);
+    assert_eq!(word(&ran.memory, 0x1f8), 0x13);
+}
+
+#[test]
+fn the_program_writes_the_stated_text() {
+    let text = "y86run\t1\nstat\tHLT\nlast\t0\ncodes\t4\nretired\t1\ncycles\t5\n\
+        loaduse\t0\nmispredict\t0\nreturn\t0\n";
+    assert_eq!(y86run(&[0]), text);
+    let refused = "y86run\t1\nrefused\t1\n";
+    assert_eq!(y86run(&[]), refused);
+    assert_eq!(y86run(&vec![0; 4_097]), refused);
+    let listing = "y86run\t1\nstat\tHLT\nlast\t64\ncodes\t0\nretired\t11\ncycles\t20\n\
+        loaduse\t0\nmispredict\t2\nreturn\t3\nreg\trax\t9\nreg\trdx\t9\nreg\trbx\t12\n\
+        reg\trsp\t128\n";
+    assert_eq!(y86run(&listing_001()), listing);
+    let endless = from_hex("700000000000000000");
+    assert!(y86run(&endless).contains("stat\tAOK\n"));
+    assert!(y86run(&endless).contains("cycles\t4000\n"));
+}
+
+/// The plain log takes one address for each instruction; the rest stays.
+#[test]
+fn the_plain_log_shows_the_way() {
+    let mut memory = listing_001();
+    let mut machine = Plain::fresh(Registers::default(), codes(4), 0);
+    let mut log = [7; 20];
+    machine.run(&mut memory, 4, Some(&mut log)).expect("a run");
+    assert_eq!(log[..5], [0, 0x0a, 0x14, 0x16, 7]);
+    machine.run(&mut memory, 20, Some(&mut log)).expect("a run");
+    assert_eq!(log[..8], [0x20, 0x2a, 0x2c, 0x2e, 0x37, 0x41, 0x40, 7]);
+    assert_eq!((machine.count, machine.status), (11, Status::Hlt));
+}
+
+/// A step or clock on a stopped machine changes, counts and logs nothing.
+#[test]
+fn stopped_machines_stay_as_they_are() {
+    let ran = run_pipeline(&listing_001(), Registers::default());
+    let (mut machine, mut memory) = (ran.machine, ran.memory.clone());
+    let (mut addresses, mut cycles) = ([7; 9], [8; 9]);
+    machine.clock(&mut memory).expect("a clock");
+    let logs = Logs {
+        addresses: &mut addresses,
+        cycles: &mut cycles,
+    };
+    machine.run(&mut memory, 9, Some(logs)).expect("a run");
+    assert_eq!((machine, memory), (ran.machine, ran.memory));
+    assert_eq!((addresses, cycles), ([7; 9], [8; 9]));
+
+    let (plain, memory) = run_plain(&listing_001(), Registers::default());
+    let (mut machine, mut after, mut log) = (plain, memory.clone(), [7; 9]);
+    machine.step(&mut after).expect("a step");
+    machine.run(&mut after, 9, Some(&mut log)).expect("a run");
+    assert_eq!((machine, after, log), (plain, memory, [7; 9]));
+}
+
+/// Reading 5: kinds are counted when the follower retires, a stopping one
+/// too; a bad fetch is charged 2 or 3, never 1.
+#[test]
+fn reading_5_stopping_followers_are_charged() {
+    // jne not taken (ZF is 1), then INS at 9.
+    let ran = run_pipeline(&from_hex("740000000000000000 c0"), Registers::default());
+    assert_eq!((ran.kinds(), ran.machine.status), ((0, 2, 0), Status::Ins));
+    assert_eq!(ran.cycles, [5, 8]);
+    // ret to an address outside.
+    let image = from_hex("90 00 ff00000000000000");
+    let ran = run_pipeline(&image, registers(&[(RSP, 2)]));
+    assert_eq!((ran.kinds(), ran.machine.last), ((0, 0, 3), 0xff));
+    assert_eq!(ran.cycles, [5, 9]);
+    // A load, and a bad fetch behind it.
+    let mut image = from_hex("b00f c0");
+    image.resize(16, 0);
+    let ran = run_pipeline(&image, Registers::default());
+    assert_eq!((ran.kinds(), ran.machine.status), ((0, 0, 0), Status::Ins));
+    // A load, and a stopping load that uses it.
+    let image = from_hex("b00f 5010 0000000000000080");
+    let ran = run_pipeline(&image, Registers::default());
+    assert_eq!((ran.kinds(), ran.machine.status), ((1, 0, 0), Status::Adr));
+    assert_eq!(ran.cycles, [5, 7]);
+}
+
+/// Reading 7: on a spent budget memory and codes run ahead of the registers.
+#[test]
+fn reading_7_codes_run_ahead() {
+    let mut memory = from_hex("6300");
+    let mut machine = Pipeline::fresh(registers(&[(0, 5)]), codes(0), 0);
+    machine.run(&mut memory, 3, None).expect("a run");
+    assert_eq!((machine.codes.number(), machine.retired), (4, 0));
+    assert_eq!(machine.registers.0[0], 5);
+    assert_eq!(machine.status, Status::Aok);
+}
+
+/// Reading 10: the premise's bytes, and that "three" is tight.
+#[test]
+fn reading_10_the_premise() {
+    let mut image = from_hex("40010c00000000000000");
+    image.resize(24, 0x10);
+    let (plain, _) = run_plain(&image, Registers::default());
+    let ran = run_pipeline(&image, Registers::default());
+    assert_eq!((plain.last, ran.machine.last), (12, 13));
+    let account = account_of(&image);
+    assert_eq!(account.premise_reach(), 0);
+
+    // One byte further on it is the fourth instruction: the premise holds.
+    image[2] = 13;
+    let (plain, _) = run_plain(&image, Registers::default());
+    let ran = run_pipeline(&image, Registers::default());
+    assert_eq!((plain.last, ran.machine.last), (13, 13));
+    let account = account_of(&image);
+    assert_eq!(account.premise_reach(), account.performed.len());
+
+    // A 64 has two bytes, though fetch looks at one of them only; and the
+    // byte written is the one that stood there.
+    let image = from_hex("40010b00000000000000 64 00 00000000000000");
+    let account = account_of(&image);
+    assert_eq!(account.performed[1].own_bytes, 10..12);
+    assert_eq!(account.premise_reach(), 0);
+}
+
+fn account_of(image: &[u8]) -> Account {
+    let mut memory = image.to_vec();
+    let mut machine = Plain::fresh(Registers::default(), codes(4), 0);
+    Account::of(&mut machine, &mut memory, 1_000)
+}

@@ -1,0 +1,267 @@
+//! Refusals by number: lowest wins, and nothing is changed.
+
+mod common;
+
+use common::codes;
+use desk::programs::listing_001;
+use desk::second::machine::{Refusal, Registers, Status, CYCLE_LIMIT, PLAIN_LIMIT};
+use desk::second::pipeline::{Kinds, Logs, Pipeline};
+use desk::second::plain::Plain;
+use desk::second::replay;
+use desk::second::stages::{Accessing, Decoding, Executing, Instruction, Writing};
+
+fn plain() -> Plain {
+    Plain::fresh(Registers::default(), codes(4), 0)
+}
+
+fn pipeline() -> Pipeline {
+    Pipeline::fresh(Registers::default(), codes(4), 0)
+}
+
+/// A plain run with a log of a length, all compared afterwards.
+fn plain_refusal(machine: Plain, size: usize, budget: u64, log: usize) -> Option<Refusal> {
+    let (mut after, mut memory, mut lent) = (machine, vec![0x10; size], vec![9; log]);
+    let answer = after.run(&mut memory, budget, Some(&mut lent)).err();
+    if answer.is_some() {
+        assert_eq!(
+            (after, memory, lent),
+            (machine, vec![0x10; size], vec![9; log])
+        );
+    }
+    answer
+}
+
+#[test]
+fn plain_runs_are_refused_by_number() {
+    let mut counted = plain();
+    counted.count = PLAIN_LIMIT - 10;
+    let mut full = plain();
+    full.count = u64::MAX;
+    let cases = [
+        (plain(), 0, 0, 0, Some(Refusal::Memory)),
+        (plain(), 4_097, 1, 1, Some(Refusal::Memory)),
+        (plain(), 4_096, 0, 0, Some(Refusal::Budget)),
+        (plain(), 1, PLAIN_LIMIT + 1, 0, Some(Refusal::Budget)),
+        (plain(), 1, u64::MAX, 0, Some(Refusal::Budget)),
+        (plain(), 1, PLAIN_LIMIT, 65_535, Some(Refusal::Buffer)),
+        (plain(), 1, PLAIN_LIMIT, 65_536, None),
+        (counted, 1, 11, 11, Some(Refusal::Budget)),
+        (counted, 1, 10, 9, Some(Refusal::Buffer)),
+        (counted, 1, 10, 10, None),
+        (full, 1, 1, 1, Some(Refusal::Budget)),
+    ];
+    for (machine, size, budget, log, expected) in cases {
+        assert_eq!(plain_refusal(machine, size, budget, log), expected);
+        let stopped = Plain {
+            status: Status::Hlt,
+            ..machine
+        };
+        assert_eq!(plain_refusal(stopped, size, budget, log), expected);
+    }
+}
+
+#[test]
+fn a_step_is_a_run_of_one() {
+    let mut memory = vec![0x10; 4];
+    let mut machine = plain();
+    machine.count = PLAIN_LIMIT;
+    assert_eq!(machine.step(&mut memory), Err(Refusal::Budget));
+    assert_eq!(machine.step(&mut []), Err(Refusal::Memory));
+    machine.count = PLAIN_LIMIT - 1;
+    assert_eq!(machine.step(&mut memory), Ok(()));
+    assert_eq!((machine.count, machine.address), (PLAIN_LIMIT, 1));
+}
+
+fn pipeline_refusal(
+    machine: Pipeline,
+    size: usize,
+    budget: u64,
+    logs: (usize, usize),
+) -> Option<Refusal> {
+    let (mut after, mut memory) = (machine, vec![0x10; size]);
+    let (mut addresses, mut cycles) = (vec![9; logs.0], vec![8; logs.1]);
+    let lent = Logs {
+        addresses: &mut addresses,
+        cycles: &mut cycles,
+    };
+    let answer = after.run(&mut memory, budget, Some(lent)).err();
+    if answer.is_some() {
+        assert_eq!((after, memory), (machine, vec![0x10; size]));
+        assert_eq!((addresses, cycles), (vec![9; logs.0], vec![8; logs.1]));
+    }
+    answer
+}
+
+#[test]
+fn pipelined_runs_are_refused_by_number() {
+    let mut late = pipeline();
+    late.cycles = CYCLE_LIMIT - 10;
+    let mut bad = late;
+    bad.retired = u64::MAX;
+    let limit = CYCLE_LIMIT as usize;
+    let cases = [
+        (bad, 0, 0, (0, 0), Some(Refusal::Memory)),
+        (bad, 1, 0, (0, 0), Some(Refusal::Budget)),
+        (bad, 1, 11, (0, 0), Some(Refusal::Budget)),
+        (bad, 1, 10, (9, 10), Some(Refusal::Buffer)),
+        (bad, 1, 10, (10, 9), Some(Refusal::Buffer)),
+        (bad, 1, 10, (10, 10), Some(Refusal::Record)),
+        (late, 1, 10, (10, 10), None),
+        (pipeline(), 1, CYCLE_LIMIT, (limit, limit), None),
+        (
+            pipeline(),
+            1,
+            CYCLE_LIMIT + 1,
+            (limit, limit),
+            Some(Refusal::Budget),
+        ),
+        (
+            pipeline(),
+            1,
+            u64::MAX,
+            (limit, limit),
+            Some(Refusal::Budget),
+        ),
+    ];
+    for (machine, size, budget, logs, expected) in cases {
+        assert_eq!(pipeline_refusal(machine, size, budget, logs), expected);
+        let stopped = Pipeline {
+            status: Status::Ins,
+            ..machine
+        };
+        assert_eq!(pipeline_refusal(stopped, size, budget, logs), expected);
+    }
+}
+
+/// The records with an instruction in each place that can hold one.
+fn holding(instruction: Instruction) -> [Pipeline; 5] {
+    let base = pipeline();
+    let d = Decoding {
+        instruction,
+        constant: 0,
+    };
+    let e = Executing {
+        instruction,
+        constant: 0,
+        a: 0,
+        b: 0,
+    };
+    let m = Accessing {
+        instruction,
+        result: 0,
+        a: 0,
+    };
+    let w = Writing {
+        instruction,
+        result: 0,
+        loaded: 0,
+    };
+    [
+        Pipeline { d: Some(d), ..base },
+        Pipeline { e: Some(e), ..base },
+        Pipeline { m: Some(m), ..base },
+        Pipeline { w: Some(w), ..base },
+        Pipeline {
+            kept: Some(instruction),
+            ..base
+        },
+    ]
+}
+
+#[test]
+fn records_are_refused_for_what_they_hold() {
+    let make =
+        |code, function, ra, rb| Instruction::new(0, (code, function), (ra, rb), Status::Aok);
+    let refused = [
+        make(12, 0, 15, 15),
+        make(255, 0, 15, 15),
+        make(2, 7, 0, 0),
+        make(7, 7, 15, 15),
+        make(6, 4, 0, 0),
+        make(6, 0, 16, 0),
+        make(6, 0, 0, 16),
+        make(11, 0, 200, 15),
+    ];
+    let allowed = [
+        make(0, 9, 15, 15),
+        make(11, 200, 15, 15),
+        make(2, 6, 15, 15),
+        make(7, 6, 15, 15),
+        make(6, 3, 15, 15),
+    ];
+    for (instructions, expected) in [(&refused[..], Some(Refusal::Record)), (&allowed[..], None)] {
+        for instruction in instructions {
+            for machine in holding(*instruction) {
+                let answer = pipeline_refusal(machine, 8, 1, (1, 1));
+                assert_eq!(answer, expected, "{instruction:?}");
+            }
+        }
+    }
+}
+
+#[test]
+fn counts_above_the_cycles_are_refused() {
+    let kinds = |load_use, mispredict, returns| Kinds {
+        load_use,
+        mispredict,
+        returns,
+    };
+    let mut machine = pipeline();
+    machine.cycles = 7;
+    for spoilt in [kinds(8, 0, 0), kinds(0, 8, 0), kinds(0, 0, 8)] {
+        machine.kinds = spoilt;
+        assert_eq!(
+            pipeline_refusal(machine, 1, 1, (1, 1)),
+            Some(Refusal::Record)
+        );
+    }
+    machine.kinds = kinds(7, 7, 7);
+    machine.retired = 7;
+    assert_eq!(pipeline_refusal(machine, 1, 1, (1, 1)), None);
+    machine.retired = 8;
+    assert_eq!(
+        pipeline_refusal(machine, 1, 1, (1, 1)),
+        Some(Refusal::Record)
+    );
+}
+
+/// All combinations of the five refusals at the host edge.
+#[test]
+fn the_host_edge_refuses_by_the_lowest_number() {
+    for spoilt in 0..32_u64 {
+        let way = |number: u64| spoilt >> (number - 1) & 1 == 1;
+        let sizes = if way(1) { [0, 4_097] } else { [1, 4_096] };
+        let block = if way(2) { 119 } else { 120 };
+        let budgets = if way(3) {
+            [0, CYCLE_LIMIT + 1]
+        } else {
+            [1, CYCLE_LIMIT]
+        };
+        let words = if way(4) { 41 } else { 40 };
+        let codes = if way(5) { 8 } else { 7 };
+        for (size, budget) in [(sizes[0], budgets[1]), (sizes[1], budgets[0])] {
+            let (mut memory, mut registers) = (vec![0; size], vec![3; block]);
+            let mut result = vec![5; words];
+            let answer = replay(&mut memory, &mut registers, &mut result, 0, codes, budget);
+            let lowest = (1..=5).find(|number| way(*number)).unwrap_or(0);
+            assert_eq!(answer, lowest);
+            if lowest > 0 {
+                assert_eq!((memory, registers), (vec![0; size], vec![3; block]));
+                assert_eq!(result, vec![5; words]);
+            }
+        }
+    }
+}
+
+#[test]
+fn the_host_edge_leaves_the_final_state() {
+    let mut memory = listing_001();
+    let (mut registers, mut result) = (vec![0; 120], vec![9; 40]);
+    let answer = replay(&mut memory, &mut registers, &mut result, 0, 4, 262_145);
+    assert_eq!(answer, 0);
+    let words: Vec<u64> = (0..5).map(|k| common::word(&result, 8 * k)).collect();
+    assert_eq!(words, [2, 0x40, 0, 11, 20]);
+    assert_eq!(common::word(&registers, 0), 9);
+    assert_eq!(common::word(&registers, 32), 128);
+    assert_eq!(common::word(&memory, 120), 64);
+}
