@@ -1,7 +1,7 @@
 -- The wrong replays at the host edge: each at the image `00` with all registers 0, which halts in cycle 5.
 use Prim.Native.Nat.{ℕ, suc}
 use mathlib.Core.List.{List, [], _∷_}
-use mathlib.Core.Path.{refl}
+use mathlib.Core.Path.{_≡_, refl}
 use lib.ListN.{getD, replicate}
 use Rattle.machine.specs.Memory.{Memory}
 use Rattle.edge.specs.Edge.{Edge, edge, wordsIn, withWords, codesFrom, edgeRefusal, resultWords, edgeDone, edgeRun, replayed}
@@ -25,3 +25,19 @@ edge-idles = differs (λ r. getD (r .result) 0 0) 0 2 refl
 pub edge-makes-up : FallsFoul host-edge (λ x. edge 0 (x .0) (x .1) (withWords (2 ∷ 0 ∷ 4 ∷ 1 ∷ 6 ∷ []) (x .2) 0)) halting
 unfolding PipeFoul wordsIn withWords codesFrom edgeRefusal resultWords edgeDone edgeRun replayed
 edge-makes-up = differs (λ r. getD (r .result) 32 0) 6 5 refl
+
+-- nop, nop, nop, halt with codes 5: HLT, last address 3, codes 5, 4 retired, 8 cycles, a word each
+pub edge-words : wordsIn 5 (replayed (0x10 ∷ 0x10 ∷ 0x10 ∷ 0 ∷ []) (replicate 120 0) (replicate 40 0) 0 5 100 .result) 0 ≡ 2 ∷ 3 ∷ 5 ∷ 4 ∷ 8 ∷ []
+unfolding PipeFoul wordsIn withWords codesFrom edgeRefusal resultWords edgeDone edgeRun replayed
+edge-words = refl
+
+-- irmovq $1, rax, halt: the register block holds 1 afterwards, and then zeros
+pub edge-registers : wordsIn 15 (replayed (0x30 ∷ 0xf0 ∷ 1 ∷ replicate 8 0) (replicate 120 0) (replicate 40 0) 0 4 100 .registers) 0 ≡ 1 ∷ replicate 14 0
+unfolding PipeFoul wordsIn withWords codesFrom edgeRefusal resultWords edgeDone edgeRun replayed
+edge-registers = refl
+
+-- "Lowest number wins": with all wrong at first, and one more put right each time
+pub edge-lowest : (edgeRefusal 0 0 0 8 0 ≡ 1) × (edgeRefusal 1 0 0 8 0 ≡ 2) × (edgeRefusal 1 120 0 8 0 ≡ 3) × (edgeRefusal 1 120 0 8 1 ≡ 4)
+    × (edgeRefusal 1 120 40 8 1 ≡ 5) × (edgeRefusal 1 120 40 7 1 ≡ 0)
+unfolding PipeFoul edgeRefusal
+edge-lowest = (refl, refl, refl, refl, refl, refl)

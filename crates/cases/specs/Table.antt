@@ -38,7 +38,24 @@ cases =
     ∷ case 16 3 0xa04f_00 ((4, 16) ∷ []) hlt 2 4 2 6 0 0 0 ((register, 4, 8) ∷ (word, 8, 16) ∷ [])
     ∷ case 16 9 0xb04f_00_0000000000_05 ((4, 8) ∷ []) hlt 2 4 2 6 0 0 0 ((register, 4, 5) ∷ [])
     -- P11 popq rsp before ret: ret charged 1, its follower 3
-    ∷ case 24 17 0xb04f_90_00_00000000_1000000000000000_03 ((4, 8) ∷ []) hlt 3 4 3 11 1 0 3 ((register, 4, 24) ∷ (charged, 2, 1) ∷ (charged, 3, 3) ∷ [])
+    ∷ case 32 25 0xb04f_90_00_00000000_1800000000000000_0000000000000000_03 ((4, 8) ∷ []) hlt 3 4 3 11 1 0 3 ((register, 4, 32) ∷ (charged, 2, 1) ∷ (charged, 3, 3) ∷ [])
+    -- a filler that isn't F: INS
+    ∷ case 2 2 0xa000 [] ins 0 4 1 5 0 0 0 []
+    ∷ case 2 2 0xb000 [] ins 0 4 1 5 0 0 0 []
+    ∷ case 10 10 0x30000000000000000000 [] ins 0 4 1 5 0 0 0 []
+    -- a function that the table has not: INS
+    ∷ case 1 1 0x01 [] ins 0 4 1 5 0 0 0 []
+    ∷ case 2 2 0x2700 [] ins 0 4 1 5 0 0 0 []
+    ∷ case 9 9 0x770000000000000000 [] ins 0 4 1 5 0 0 0 []
+    -- addq past the upper end: OF 1, SF 1; addq that wraps to 0: ZF; andq and xorq of 6 and 3
+    ∷ case 3 3 0x6001_00 ((0, 1) ∷ (1, 2 ^ 63 - 1) ∷ []) hlt 2 3 2 6 0 0 0 ((register, 1, 2 ^ 63) ∷ [])
+    ∷ case 3 3 0x6001_00 ((0, 1) ∷ (1, 2 ^ 64 - 1) ∷ []) hlt 2 4 2 6 0 0 0 ((register, 1, 0) ∷ [])
+    ∷ case 3 3 0x6201_00 ((0, 6) ∷ (1, 3) ∷ []) hlt 2 0 2 6 0 0 0 ((register, 1, 2) ∷ [])
+    ∷ case 3 3 0x6301_00 ((0, 6) ∷ (1, 3) ∷ []) hlt 2 0 2 6 0 0 0 ((register, 1, 5) ∷ [])
+    -- the seven conditions, by cmovXX rax after subq rax, rcx: equal, less, greater
+    ∷ case 17 17 0x6101_2002_2103_2205_2306_2407_2508_2609_00 ((0, 1) ∷ (1, 1) ∷ []) hlt 16 4 9 13 0 0 0 ((register, 2, 1) ∷ (register, 3, 1) ∷ (register, 5, 0) ∷ (register, 6, 1) ∷ (register, 7, 0) ∷ (register, 8, 1) ∷ (register, 9, 0) ∷ [])
+    ∷ case 17 17 0x6101_2002_2103_2205_2306_2407_2508_2609_00 ((0, 1) ∷ (1, 0) ∷ []) hlt 16 2 9 13 0 0 0 ((register, 2, 1) ∷ (register, 3, 1) ∷ (register, 5, 1) ∷ (register, 6, 0) ∷ (register, 7, 1) ∷ (register, 8, 0) ∷ (register, 9, 0) ∷ [])
+    ∷ case 17 17 0x6101_2002_2103_2205_2306_2407_2508_2609_00 ((0, 1) ∷ (1, 2) ∷ []) hlt 16 0 9 13 0 0 0 ((register, 2, 1) ∷ (register, 3, 0) ∷ (register, 5, 0) ∷ (register, 6, 0) ∷ (register, 7, 1) ∷ (register, 8, 1) ∷ (register, 9, 1) ∷ [])
     -- the listing of 001: 11 retired, 20 cycles, HLT at 0x40, rax 9, rbx 12, rsp 128, word at 120 is 64
     ∷ case 256 66 0x30f20900000000000000_30f31500000000000000_6123_30f48000000000000000_40436400000000000000_a02f_b00f_734000000000000000_804100000000000000_00_90 [] hlt 0x40 0 11 20 0 2 3 ((register, 0, 9) ∷ (register, 3, 12) ∷ (register, 4, 128) ∷ (word, 120, 64) ∷ [])
     -- the listing of 004 stops at 0x13 after 33, in 52 cycles

@@ -3,8 +3,8 @@ use mathlib.Core.Path.{_≡_, refl, ap, _∙_}
 use mathlib.Core.Bool.{Bool, true, false, cond, not}
 use Prim.Native.Nat.{ℕ, _+_, _-_, _/_, _%_, _≤_, _<_}
 use native.Mathlib.Omega.{arith}
-use borrow.Author.Tests.{eq-eqb, ne-eqb, lt-ltb, le-ltb, le-leb, lt-leb}
-use lib.Dec.{T, eqb, ltb}
+use borrow.Author.Tests.{eq-eqb, ne-eqb, lt-ltb, le-ltb, le-leb, lt-leb, ltb-true, ltb-false, leb-true, leb-false, not-true, not-false}
+use lib.Dec.{T, eqb, ltb, leb}
 use lib.ListN.{length, getD}
 use Rattle.machine.specs.declared.Status.the-variants.{Aok as aok, Hlt as hlt, Adr as adr, Ins as ins}
 use Rattle.machine.specs.declared.Instruction.{Instruction}
@@ -46,22 +46,31 @@ named onlyA h = tt
 pub second : (code : ℕ) → (byteNumber (rowOf code .byte) ≡ 0 → ⊥) → 2 ≤ rowOf code .size
 second code h = omega (arith, length-rule code, two (rowOf code) (named (rowOf code .byte) h))
 
+-- what the test of the length leaves
+pub room : (z l : ℕ) → not (leb z l) ≡ false → z ≤ l
+room z l h = leb-true z l (not-false (leb z l) h)
+
 -- THE WAYS OUT
 pub outside : (m : Memory) (a : ℕ) (r : Instruction) → length m ≤ a → r ≡ stopping a adr → r ≡ fetch m a
 unfolding checked aokAt
 outside m a r h e = cc (fetch-is m a, le-leb (length m) a h)
 
 module _ (m : Memory) (a f : ℕ) (h : a < length m) (ef : f ≡ rowOf (codeAt m a) .functions) where
-  pub no-function : (r : Instruction) → f ≤ getD m a 0 % 16 → r ≡ stopping a ins → r ≡ fetch m a
+  pub no-function : (r : Instruction) → not (ltb (getD m a 0 % 16) f) ≡ true → r ≡ stopping a ins → r ≡ fetch m a
   unfolding checked aokAt
-  no-function r p e = cc (fetch-is m a, lt-leb (length m) a h, le-leb f (getD m a 0 % 16) p)
+  no-function r p e = cc (fetch-is m a, lt-leb (length m) a h, le-leb f (getD m a 0 % 16) (ltb-false (getD m a 0 % 16) f (not-true _ p)))
 
-  module _ (z : ℕ) (p : getD m a 0 % 16 < f) (ez : z ≡ rowOf (codeAt m a) .size) where
-    pub cut-short : (r : Instruction) → length m - a < z → r ≡ stopping a adr → r ≡ fetch m a
+  module _ (z : ℕ) (p : not (ltb (getD m a 0 % 16) f) ≡ false) (ez : z ≡ rowOf (codeAt m a) .size) where
+    in-table : leb f (getD m a 0 % 16) ≡ false
+    in-table = lt-leb f (getD m a 0 % 16) (ltb-true (getD m a 0 % 16) f (not-false _ p))
+
+    pub cut-short : (r : Instruction) → not (leb z (length m - a)) ≡ true → r ≡ stopping a adr → r ≡ fetch m a
     unfolding checked aokAt
-    cut-short r q e = cc (fetch-is m a, lt-leb (length m) a h, lt-leb f (getD m a 0 % 16) p, lt-ltb (length m) (a + z) (omega arith))
+    cut-short r q e =
+        let short = leb-false z (length m - a) (not-true _ q) in
+        cc (fetch-is m a, lt-leb (length m) a h, in-table, lt-ltb (length m) (a + z) (omega arith))
 
-    module _ (y b : ℕ) (t : Bool) (q : z ≤ length m - a) (ey : y ≡ byteNumber (rowOf (codeAt m a) .byte)) (eb : b ≡ cond (eqb y 0) 255 (getD m (a + 1) 0)) (et : t ≡ halvesFitBy y (b / 16) (b % 16)) where
+    module _ (y b : ℕ) (t : Bool) (q : not (leb z (length m - a)) ≡ false) (ey : y ≡ byteNumber (rowOf (codeAt m a) .byte)) (eb : b ≡ cond (eqb y 0) 255 (getD m (a + 1) 0)) (et : t ≡ halvesFitBy y (b / 16) (b % 16)) where
       high-is : b / 16 ≡ aokAt m a (codeAt m a) .ra
       unfolding aokAt
       high-is = cc (high (rowOf (codeAt m a) .byte) (getD m (a + 1) 0))
@@ -74,12 +83,12 @@ module _ (m : Memory) (a f : ℕ) (h : a < length m) (ef : f ≡ rowOf (codeAt m
       fit = cc (fits-by (rowOf (codeAt m a) .byte) (b / 16) (b % 16), high-is, low-is)
 
       long : ltb (length m) (a + rowOf (codeAt m a) .size) ≡ false
-      long = le-ltb (length m) (a + rowOf (codeAt m a) .size) (omega arith)
+      long = le-ltb (length m) (a + rowOf (codeAt m a) .size) (omega (arith, room z (length m - a) q))
 
       -- the checks that are passed
       through : fetch m a ≡ checked false false false (not t) (eqb (codeAt m a) 0) (aokAt m a (codeAt m a))
       unfolding aokAt
-      through = fetch-is m a ∙ rw (lt-leb (length m) a h, ← ef, lt-leb f (getD m a 0 % 16) p, long) (ap (λ (x : Bool). checked false false false x (eqb (codeAt m a) 0) (aokAt m a (codeAt m a))) fit)
+      through = fetch-is m a ∙ rw (lt-leb (length m) a h, ← ef, in-table, long) (ap (λ (x : Bool). checked false false false x (eqb (codeAt m a) 0) (aokAt m a (codeAt m a))) fit)
 
       pub misnamed : (r : Instruction) → not t ≡ true → r ≡ stopping a ins → r ≡ fetch m a
       unfolding checked aokAt

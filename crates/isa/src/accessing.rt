@@ -40,10 +40,11 @@ fn stored_word(x: Executed) -> u64
     ensures { λ r. ⌜ r ≡ storedWord x ⌝ }
 {
     let i = x.instruction;
+    let kept = x.a;
     if accesses_of(i.code) == 4 {
         i.next
     } else {
-        x.a
+        kept
     }
 }
 

@@ -69,25 +69,27 @@ pub fn fetch(memory: &[u8], address: u64) -> Instruction
 {
     let n = memory.len() as u64;
     if n <= address {
-        return stopping(address, Status::Adr);
+        return stopping(address, Status::Adr); // no first byte
     }
     let at = address as usize;
     let first = memory[at];
     let code = first / 16;
     let function = first % 16;
-    if functions_of(code) <= function {
-        return stopping(address, Status::Ins);
-    }
+    let known = function < functions_of(code);
     let size = size_of(code);
-    if n - address < size as u64 {
-        return stopping(address, Status::Adr);
+    let whole = size as u64 <= n - address;
+    if !known {
+        return stopping(address, Status::Ins); // code or function
+    }
+    if !whole {
+        return stopping(address, Status::Adr); // a later byte
     }
     let byte = byte_of(code);
     let pair = register_byte(memory, at, byte);
     let ra = pair / 16;
     let rb = pair % 16;
     if !halves_fit(byte, ra, rb) {
-        return stopping(address, Status::Ins);
+        return stopping(address, Status::Ins); // a register or a filler
     }
     if code == 0 {
         return stopping(address, Status::Hlt);

@@ -1,6 +1,8 @@
+use Rattle.isa.proofs.Parse.{room, outside, no-function, cut-short, misnamed, halts, fetches, second}
+use Prim.Native.Nat.{_-_}
+use lib.ListN.{length}
 use mathlib.Core.Path.{_∙_}
 use native.Mathlib.Omega.{arith}
-use Rattle.isa.proofs.Parse.{outside, no-function, cut-short, misnamed, halts, fetches, second}
 use borrow.Author.Needs.{needs}
 use Rattle.isa.proofs.fetching.fetch.Statement.{statement}
 use Rattle.isa.proofs.fetching.fetch.Tie as tie
@@ -17,20 +19,20 @@ shared-slice-read-first c = search needs
 functions-of-requires : tie.Need-functions-of-requires
 functions-of-requires c κs = search needs
 
+size-of-requires : tie.Need-size-of-requires
+size-of-requires c κs = search needs
+
+cast-whole : tie.Need-cast-whole
+cast-whole c = search needs
+
+sub-whole : tie.Need-sub-whole
+sub-whole c = search needs
+
 stopping-requires-2 : tie.Need-stopping-requires-2
 stopping-requires-2 c κs = search needs
 
 returns-2 : tie.Need-returns-2
 returns-2 c = search (needs, no-function)
-
-size-of-requires : tie.Need-size-of-requires
-size-of-requires c κs = search needs
-
-sub-if3 : tie.Need-sub-if3
-sub-if3 c = search needs
-
-cast-if3 : tie.Need-cast-if3
-cast-if3 c = search needs
 
 stopping-requires-3 : tie.Need-stopping-requires-3
 stopping-requires-3 c κs = search needs
@@ -42,7 +44,7 @@ byte-of-requires : tie.Need-byte-of-requires
 byte-of-requires c κs = search needs
 
 register-byte-requires : tie.Need-register-byte-requires
-register-byte-requires c κs = λ h. omega (arith, second _ (λ e. h (c .byte-of .ensures ∙ e)))
+register-byte-requires c κs = λ h. omega (arith, second _ (λ e. h (c .byte-of .ensures ∙ e)), room (c .before .before .before .size-of .result) (length (c .before .before .before .before .before .before .before .before .args .memory .now) - c .before .before .before .before .before .before .before .before .args .address) (c .before .if3 .left))
 
 halves-fit-requires : tie.Need-halves-fit-requires
 halves-fit-requires c κs = search needs
@@ -60,7 +62,7 @@ returns-5 : tie.Need-returns-5
 returns-5 c = search (needs, halts)
 
 constant-of-requires : tie.Need-constant-of-requires
-constant-of-requires c κs = search needs
+constant-of-requires c κs = omega (arith, room (c .before .before .before .before .before .before .before .size-of .result) (length (c .before .before .before .before .before .before .before .before .before .before .before .before .args .memory .now) - c .before .before .before .before .before .before .before .before .before .before .before .before .args .address) (c .before .before .before .before .before .if3 .left))
 
 cast-sum : tie.Need-cast-sum
 cast-sum c = search needs
@@ -69,7 +71,7 @@ sum-requires : tie.Need-sum-requires
 sum-requires c κs = search needs
 
 returns-6 : tie.Need-returns-6
-returns-6 c = fetches _ _ _ (c .before .before .before .before .before .before .before .before .before .before .before .before .if1 .left) (c .before .before .before .before .before .before .before .before .before .before .functions-of .ensures) _ (c .before .before .before .before .before .before .before .before .before .if2 .left) (c .before .before .before .before .before .before .before .before .size-of .ensures) _ _ _ (c .before .before .before .before .before .before .before .if3 .left) (c .before .before .before .before .before .before .byte-of .ensures) (c .before .before .before .before .before .register-byte .ensures) (c .before .before .before .before .halves-fit .ensures) _ _ (c .before .before .before .if4 .left) (c .before .before .if5 .left) (c .before .constant-of .ensures) (c .sum .ensures)
+returns-6 c = fetches _ _ _ (c .before .before .before .before .before .before .before .before .before .before .before .before .if1 .left) (c .before .before .before .before .before .before .before .before .before .before .functions-of .ensures) _ (c .before .before .before .before .before .before .before .before .if2 .left) (c .before .before .before .before .before .before .before .before .before .size-of .ensures) _ _ _ (c .before .before .before .before .before .before .before .if3 .left) (c .before .before .before .before .before .before .byte-of .ensures) (c .before .before .before .before .before .register-byte .ensures) (c .before .before .before .before .halves-fit .ensures) _ _ (c .before .before .before .if4 .left) (c .before .before .if5 .left) (c .before .constant-of .ensures) (c .sum .ensures)
 
 pub fetch-spec : {M : Type 1} → statement M
 fetch-spec =
@@ -79,11 +81,11 @@ fetch-spec =
     returns
     shared-slice-read-first
     functions-of-requires
+    size-of-requires
+    cast-whole
+    sub-whole
     stopping-requires-2
     returns-2
-    size-of-requires
-    sub-if3
-    cast-if3
     stopping-requires-3
     returns-3
     byte-of-requires
