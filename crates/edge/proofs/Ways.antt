@@ -1,8 +1,8 @@
 -- One law for each way out of a function, over variables for what its callees gave. Assumes nothing.
-use mathlib.Core.Path.{_≡_, refl, sym, _∙_}
+use mathlib.Core.Path.{_≡_, sym, _∙_}
 use mathlib.Core.Bool.{Bool, true, false, cond, not}
 use mathlib.Core.List.{List, [], _∷_}
-use Prim.Native.Nat.{ℕ, suc, _+_, _*_, _<_}
+use Prim.Native.Nat.{ℕ, _+_, _*_, _<_}
 use native.Mathlib.Omega.{arith}
 use borrow.Author.Tests.{eq-eqb, ne-eqb, lt-ltb, le-ltb, eqb-true, not-false}
 use lib.Dec.{eqb}
@@ -13,6 +13,7 @@ use Rattle.machine.specs.Types.{statusNumber, codesNumber}
 use Rattle.machine.specs.Prediction.{asIn01}
 use Rattle.machine.specs.Pipeline.{pipeStart}
 use Rattle.machine.specs.Runs.{sizeRefused, budgetRefused, lowest, pipeLimit, pipeAnswer, pipeRunUnlogged}
+use Rattle.answers.specs.Refusals.{failed}
 use Rattle.edge.specs.Edge.{wordsIn, withWords, codesFrom, edgeRefusal, resultWords, edge, edgeDone, edgeRun, replayed}
 
 -- RESULT WORDS
@@ -54,11 +55,6 @@ module _ (memory registers result codes budget : ℕ) (x : Bool) (hx : x ≡ siz
         unfolding edgeRefusal lowest
         refused-0 t u = cc (eq-eqb registers 120 r, eq-eqb result 40 t, le-ltb 7 codes (omega arith))
 
--- a test that would have given a number above 0 failed
-passed : (t : Bool) (n x : ℕ) → cond t (suc n) x ≡ 0 → (t ≡ false) × (x ≡ 0)
-passed true n x e = absurd (omega arith)
-passed false n x e = (refl, e)
-
 -- what holds where nothing is refused
 pub record Allowed (memory registers result budget : ℕ) : Type 0 where
   pub size : sizeRefused memory ≡ false
@@ -69,10 +65,10 @@ pub record Allowed (memory registers result budget : ℕ) : Type 0 where
 pub allowed : (memory registers result codes budget n : ℕ) → n ≡ edgeRefusal memory registers result codes budget → n ≡ 0 → Allowed memory registers result budget
 unfolding edgeRefusal lowest
 allowed memory registers result codes budget n h z =
-    let p1 = passed (sizeRefused memory) 0 _ (sym h ∙ z) in
-    let p2 = passed (not (eqb registers 120)) 1 _ (p1 .1) in
-    let p3 = passed (budgetRefused pipeLimit 0 budget) 2 _ (p2 .1) in
-    let p4 = passed (not (eqb result 40)) 3 _ (p3 .1) in
+    let p1 = failed (sizeRefused memory) 0 _ (sym h ∙ z) in
+    let p2 = failed (not (eqb registers 120)) 1 _ (p1 .1) in
+    let p3 = failed (budgetRefused pipeLimit 0 budget) 2 _ (p2 .1) in
+    let p4 = failed (not (eqb result 40)) 3 _ (p3 .1) in
     record { size = p1 .0; whole = eqb-true registers 120 (not-false (eqb registers 120) (p2 .0)); budgeted = p3 .0; room = eqb-true result 40 (not-false (eqb result 40) (p4 .0)) }
 
 -- THE EDGE

@@ -1,6 +1,6 @@
 -- What a caller of the host edge may rely on beside its equation. Assumes nothing.
 use mathlib.Core.Path.{_≡_, refl}
-use mathlib.Core.Bool.{Bool, true, false, cond, not}
+use mathlib.Core.Bool.{not}
 use mathlib.Core.List.{List}
 use Prim.Native.Nat.{ℕ, zero, suc, _<_}
 use native.Mathlib.Omega.{arith}
@@ -10,12 +10,8 @@ use Rattle.machine.specs.Types.{codesNumber}
 use Rattle.machine.specs.Charges.{noKinds}
 use Rattle.machine.specs.Pipeline.{pipeStart}
 use Rattle.machine.specs.Runs.{sizeRefused, budgetRefused, logRefused, recordRefused, countsRefused, refusedInD, refusedInE, refusedInM, refusedInW, refusedKept, lowest, pipeLimit, pipeRefusal, pipeDone, pipeBy, pipeRunUnlogged}
+use Rattle.answers.specs.Refusals.{failed}
 use Rattle.edge.specs.Edge.{codesFrom, edgeRefusal, edgeRun}
-
--- a test that would have given a number above 0 failed
-failed : (t : Bool) (n x : ℕ) → cond t (suc n) x ≡ 0 → (t ≡ false) × (x ≡ 0)
-failed true n x e = absurd (omega arith)
-failed false n x e = (refl, e)
 
 -- the codes' number, there and back
 pub codes-back : (n : ℕ) → n < 8 → codesNumber (codesFrom n) ≡ n

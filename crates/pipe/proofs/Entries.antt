@@ -14,7 +14,7 @@ use Rattle.machine.specs.Prediction.{asIn01}
 use Rattle.machine.specs.Pipeline.{pipedOf, clocks}
 use Rattle.machine.specs.Runs.{sizeRefused, budgetRefused, logRefused, refusedInD, refusedInE, refusedInM, refusedInW, refusedKept, countsRefused, recordRefused, lowest, pipeLimit, pipeRefusal, PipeAnswer, pipeAnswer, pipeDone, pipeBy, pipeRun, pipeRunUnlogged, pipeClock}
 use Rattle.pipe.specs.Parts.{refusalBy, answerBy}
-use Rattle.pipe.proofs.Runs.{or-right}
+use Rattle.answers.specs.Refusals.{or-right}
 
 module _ (short : Bool) (k : Pipeline) (m : Memory) (budget : ℕ) (a y : List ℕ) (n : ℕ) (e : n ≡ refusalBy short k (length m) budget) where
   pub refused : (n ≡ 0 → ⊥) → pipeAnswer n k m a y ≡ answerBy short k m budget a y

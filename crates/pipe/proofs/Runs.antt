@@ -9,6 +9,7 @@ use native.Mathlib.Omega.{arith}
 use lib.Dec.{ltb}
 use lib.ListN.{length, length-append}
 use borrow.Author.Tests.{ltb-false}
+use Rattle.answers.specs.Refusals.{or-right}
 use Rattle.answers.specs.Logs.{laid-more}
 use Rattle.machine.specs.declared.Pipeline.{Pipeline}
 use Rattle.machine.specs.declared.Kinds.{Kinds}
@@ -143,10 +144,6 @@ module _ (k : Pipeline) (s₀ : Running) (r₀ m₀ a₀ y₀ : List ℕ) (n : �
 or-left : (a b : Bool) → (a || b) ≡ false → a ≡ false
 or-left true b h = cc
 or-left false b h = refl
-
-pub or-right : (a b : Bool) → (a || b) ≡ false → b ≡ false
-or-right true b h = cc
-or-right false b h = h
 
 pub small-first : (p : Pipeline) (s : Running) → s ≡ runningOf p → countsRefused p ≡ false → p .cycles ≤ 262145 → Small 262146 (s .tally)
 unfolding countsRefused runningOf

@@ -1,8 +1,8 @@
 -- One law for each way out of a function, over variables for what its callees gave. Assumes nothing.
 use mathlib.Core.Path.{_≡_, refl, ap, sym, _∙_}
-use mathlib.Core.Bool.{Bool, true, false, cond, not, _||_, true≢false}
+use mathlib.Core.Bool.{Bool, true, false, not, _||_}
 use mathlib.Core.List.{List, [], _∷_, _++_}
-use Prim.Native.Nat.{ℕ, suc, _+_, _≤_, _<_}
+use Prim.Native.Nat.{ℕ, _+_, _≤_, _<_}
 use native.Mathlib.Omega.{arith}
 use native.Mathlib.Numerals.{add-one}
 use borrow.Author.Tests.{lt-ltb, le-ltb, ne-eqb, not-true, not-false, ltb-false}
@@ -23,6 +23,7 @@ use Rattle.machine.specs.Stages.{sourceA, sourceB, decode, execute, access, new
 use Rattle.machine.specs.Plain.{Plain, plainOf, isStopped, fetched, decoded, executed, accessed, performed, stoppedBy, step, steps}
 use Rattle.machine.specs.Runs.{laid, lowest, sizeRefused, budgetRefused, logRefused, plainLimit, plainRefusal, plainAnswer, plainDone, plainBy, plainRun, plainStep}
 use Rattle.plain.specs.Records.{withRegister, afterPerformed, afterStop, RunsTo}
+use Rattle.answers.specs.Refusals.{failed, or-right}
 use Rattle.answers.specs.Logs.{laid-more, laid-length}
 use Rattle.plain.specs.Steps.{bare, behind, step-bare, step-logs, step-counts, still-on}
 
@@ -175,21 +176,12 @@ unfolding laid
 laid-none [] = refl
 laid-none (e ∷ es) = refl
 
--- a test that would have given a number above 0 failed
-failed : (t : Bool) (n x : ℕ) → cond t (suc n) x ≡ 0 → (t ≡ false) × (x ≡ 0)
-failed true n x e = absurd (omega arith)
-failed false n x e = (refl, e)
-
-either : (a b : Bool) → a || b ≡ false → b ≡ false
-either true b h = absurd (true≢false h)
-either false b h = h
-
 pub within-limit : (size count budget n : ℕ) (short : Bool) → n ≡ lowest ((1, sizeRefused size) ∷ (3, budgetRefused plainLimit count budget) ∷ (4, short) ∷ []) → n ≡ 0 → count + budget ≤ 65536
 unfolding lowest budgetRefused
 within-limit size count budget n short h z =
     let p = failed (sizeRefused size) 0 _ (sym h ∙ z) in
     let q = failed (budgetRefused plainLimit count budget) 2 _ (p .1) in
-    ltb-false plainLimit (count + budget) (either (eqb budget 0) (ltb plainLimit (count + budget)) (q .0))
+    ltb-false plainLimit (count + budget) (or-right (eqb budget 0) (ltb plainLimit (count + budget)) (q .0))
 
 module _ (logs : List ℕ) (k : Machine) (m : Memory) (budget : ℕ) (log : List ℕ) (n : ℕ) (h : n ≡ plainRefusal (length m) (k .count) budget logs) where
   pub refuses : (n ≡ 0 → ⊥) → plainAnswer n k m log ≡ plainBy logs k m budget log
