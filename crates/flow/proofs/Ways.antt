@@ -1,6 +1,6 @@
 -- One law for each way out of a function, over variables for what its callees gave. Assumes nothing.
 use mathlib.Core.Path.{_≡_}
-use mathlib.Core.Bool.{Bool, true, false, cond, _||_}
+use mathlib.Core.Bool.{Bool, cond, _||_}
 use Prim.Native.Nat.{ℕ}
 use Rattle.machine.specs.declared.Codes.{Codes}
 use Rattle.machine.specs.declared.Instruction.{Instruction}
@@ -43,9 +43,3 @@ module _ (f : Flow) (r : Registers) (bytes : Memory) (x : StageM) (y : StageW) (
       → record { predicted = p; d = d; e = e; m = m; w = y; codes = k } ≡ flowAfter f r bytes
   unfolding flowAfter shiftedOf
   flow-is p d e m k ep ed ee em ek = cc
-
-pub stays : {A : Type 0} (w : StageW) (b : Bool) (x y : A) → b ≡ badInW w → b ≡ true → x ≡ cond (badInW w) x y
-stays w b x y e h = cc
-
-pub moves : {A : Type 0} (w : StageW) (b : Bool) (x y v : A) → b ≡ badInW w → b ≡ false → v ≡ y → v ≡ cond (badInW w) x y
-moves w b x y v e h p = cc

@@ -24,8 +24,7 @@ use stage::working::after_m;
 use stage::working::memory_after;
 use stage::working::registers_after;
 ghost use mathlib.Core.Path.{_≡_};
-ghost use mathlib.Core.Bool.{cond};
-ghost use Rattle.machine.specs.Pipeline.{badInW, memoryAfter, registersAfter};
+ghost use Rattle.machine.specs.Pipeline.{memoryAfter, registersAfter};
 ghost use Rattle.flow.specs.Moving.{signalsOf, fetchedIn, decodedIn, flowAfter};
 
 // F to W with the codes: what a clock works on, without registers and counts.
@@ -79,7 +78,7 @@ fn decode_now(
 }
 
 // A clock in which no bad status stands in W: all is read before memory and registers are written.
-fn advance(flow: Flow, registers: &mut [u64; 15], memory: &mut [u8]) -> Flow
+pub fn advance(flow: Flow, registers: &mut [u64; 15], memory: &mut [u8]) -> Flow
     ensures { λ r. ⌜ (r ≡ flowAfter flow (now (registers .entry)) (now (memory .entry))) × (now (registers .exit) ≡ registersAfter (flow .w) (now (registers .entry))) × (now (memory .exit) ≡ memoryAfter (flow .m) (now (memory .entry))) ⌝ }
 {
     let d = flow.d;
@@ -102,15 +101,4 @@ fn advance(flow: Flow, registers: &mut [u64; 15], memory: &mut [u8]) -> Flow
         w: accessed,
         codes: next_codes(s.fails, e, codes),
     }
-}
-
-// Behind a bad status in W everything stays as it stood.
-pub fn moved(flow: Flow, registers: &mut [u64; 15], memory: &mut [u8]) -> Flow
-    ensures { λ r. ⌜ (r ≡ cond (badInW (flow .w)) flow (flowAfter flow (now (registers .entry)) (now (memory .entry)))) × (now (registers .exit) ≡ cond (badInW (flow .w)) (now (registers .entry)) (registersAfter (flow .w) (now (registers .entry)))) × (now (memory .exit) ≡ cond (badInW (flow .w)) (now (memory .entry)) (memoryAfter (flow .m) (now (memory .entry)))) ⌝ }
-{
-    let w = flow.w;
-    if bad_in_w(w) {
-        return flow;
-    }
-    advance(flow, registers, memory)
 }
