@@ -1,6 +1,6 @@
 -- What the numbers of the constant tables decide is what the rows say. Assumes nothing.
 use mathlib.Core.Path.{_≡_, refl, ap, sym, _∙_}
-use mathlib.Core.Bool.{_||_, cond}
+use mathlib.Core.Bool.{not, _||_, cond}
 use mathlib.Core.List.{List, [], _∷_, map}
 use Prim.Native.Nat.{ℕ, zero, suc, _≤_, _<_}
 use native.Mathlib.Omega.{arith}
@@ -68,6 +68,14 @@ stores-by loadsAtE = refl
 stores-by loadsAtA = refl
 stores-by storesA = refl
 stores-by storesNext = refl
+
+pub accesses-by : (k : Accesses) → not (eqb (accessesNumber k) 0) ≡ (loading k || storing k)
+unfolding accessesNumber loading storing
+accesses-by noAccess = refl
+accesses-by loadsAtE = refl
+accesses-by loadsAtA = refl
+accesses-by storesA = refl
+accesses-by storesNext = refl
 
 pub addressed-by : (k : Accesses) (x : Executed) → cond (eqb (accessesNumber k) 2) (x .a) (x .result) ≡ addressed k x
 unfolding accessesNumber addressed

@@ -23,8 +23,8 @@ use Rattle.machine.specs.Words.{sum, difference, signed, outside}
 use Rattle.machine.specs.Memory.{Memory, Registers, inside, load, store, written}
 use Rattle.machine.specs.Table.{rowOf, is}
 use Rattle.machine.specs.Stages.{sourceA, sourceB, resultTarget, loadedTarget, newRegisters, operated, overflows, operatedCodes, newCodes, condition, result, outcome, execute, loads, stores, accessAddress, storedWord, accessStatus, access, newMemory, turned, straight, nextAddress}
-use Rattle.isa.specs.Numbers.{whichNumber, computesNumber, accessesNumber, registerBy, computedBy}
-use Rattle.isa.proofs.Entries.{register-by, computed-by, loads-by, stores-by, addressed-by, stored-by}
+use Rattle.isa.specs.Numbers.{whichNumber, computesNumber, accessKind, registerBy, computedBy}
+use Rattle.isa.proofs.Entries.{register-by, computed-by, loads-by, stores-by, accesses-by, addressed-by, stored-by}
 
 pub missing : {A : Type 0} (l : List A) (k : ℕ) (d : A) → length l ≤ k → d ≡ getD l k d
 missing l k d h = sym (List·getD-eq-default l d h)
@@ -133,56 +133,51 @@ unfolding nextAddress is
 goes-on w v h k e = cc (ne-eqb (w .instruction .code) 9 h, ne-eqb (w .instruction .code) 7 k)
 
 -- ACCESS
-pub loads-is : (i : Instruction) (k : ℕ) → k ≡ accessesNumber (rowOf (i .code) .accesses) → (eqb k 1 || eqb k 2) ≡ loads i
-unfolding loads
-loads-is i k q = cc (loads-by (rowOf (i .code) .accesses))
-
-pub stores-is : (i : Instruction) (k : ℕ) → k ≡ accessesNumber (rowOf (i .code) .accesses) → (eqb k 3 || eqb k 4) ≡ stores i
-unfolding stores
-stores-is i k q = cc (stores-by (rowOf (i .code) .accesses))
-
-pub at-a : (x : Executed) (k : ℕ) → k ≡ accessesNumber (rowOf (x .instruction .code) .accesses) → k ≡ 2 → x .a ≡ accessAddress x
+pub at-a : (x : Executed) (k : ℕ) → k ≡ accessKind x → k ≡ 2 → x .a ≡ accessAddress x
 unfolding accessAddress
 at-a x k q h = cc (addressed-by (rowOf (x .instruction .code) .accesses) x, eq-eqb k 2 h)
 
-pub at-e : (x : Executed) (k : ℕ) → k ≡ accessesNumber (rowOf (x .instruction .code) .accesses) → (k ≡ 2 → ⊥) → x .result ≡ accessAddress x
+pub at-e : (x : Executed) (k : ℕ) → k ≡ accessKind x → (k ≡ 2 → ⊥) → x .result ≡ accessAddress x
 unfolding accessAddress
 at-e x k q h = cc (addressed-by (rowOf (x .instruction .code) .accesses) x, ne-eqb k 2 h)
 
-pub next-stored : (x : Executed) (k : ℕ) → k ≡ accessesNumber (rowOf (x .instruction .code) .accesses) → k ≡ 4 → x .instruction .next ≡ storedWord x
+pub next-stored : (x : Executed) (k : ℕ) → k ≡ accessKind x → k ≡ 4 → x .instruction .next ≡ storedWord x
 unfolding storedWord
 next-stored x k q h = cc (stored-by (rowOf (x .instruction .code) .accesses) x, eq-eqb k 4 h)
 
-pub a-stored : (x : Executed) (k : ℕ) → k ≡ accessesNumber (rowOf (x .instruction .code) .accesses) → (k ≡ 4 → ⊥) → x .a ≡ storedWord x
+pub a-stored : (x : Executed) (k : ℕ) → k ≡ accessKind x → (k ≡ 4 → ⊥) → x .a ≡ storedWord x
 unfolding storedWord
 a-stored x k q h = cc (stored-by (rowOf (x .instruction .code) .accesses) x, ne-eqb k 4 h)
 
-pub failed : (x : Executed) (m : Memory) (l s n : Bool) (a : ℕ) → l ≡ loads (x .instruction) → s ≡ stores (x .instruction) → a ≡ accessAddress x → n ≡ inside m a
-    → (l || s) && not n ≡ true → adr ≡ accessStatus x m
-unfolding accessStatus
-failed x m l s n a e f g h t = cc
+pub failed : (x : Executed) (m : Memory) (k a : ℕ) (n : Bool) → k ≡ accessKind x → a ≡ accessAddress x → n ≡ inside m a
+    → not (eqb k 0) && not n ≡ true → adr ≡ accessStatus x m
+unfolding accessStatus loads stores
+failed x m k a n q e h t = cc (accesses-by (rowOf (x .instruction .code) .accesses))
 
-pub sound : (x : Executed) (m : Memory) (l s n : Bool) (a : ℕ) → l ≡ loads (x .instruction) → s ≡ stores (x .instruction) → a ≡ accessAddress x → n ≡ inside m a
-    → (l || s) && not n ≡ false → x .instruction .status ≡ accessStatus x m
-unfolding accessStatus
-sound x m l s n a e f g h t = cc
+pub sound : (x : Executed) (m : Memory) (k a : ℕ) (n : Bool) → k ≡ accessKind x → a ≡ accessAddress x → n ≡ inside m a
+    → not (eqb k 0) && not n ≡ false → x .instruction .status ≡ accessStatus x m
+unfolding accessStatus loads stores
+sound x m k a n q e h t = cc (accesses-by (rowOf (x .instruction .code) .accesses))
 
-pub word-read : (x : Executed) (m : Memory) (b : Bool) (a v : ℕ) → b ≡ loads (x .instruction) → b ≡ true → a ≡ accessAddress x → v ≡ load m a → v ≡ cond (loads (x .instruction)) (load m (accessAddress x)) 0
-word-read x m b a v e h p q = cc
+pub word-read : (x : Executed) (m : Memory) (k a v : ℕ) → k ≡ accessKind x → (eqb k 1 || eqb k 2) ≡ true → a ≡ accessAddress x → v ≡ load m a
+    → v ≡ cond (loads (x .instruction)) (load m (accessAddress x)) 0
+unfolding loads
+word-read x m k a v q h e p = cc (loads-by (rowOf (x .instruction .code) .accesses))
 
-pub no-word : (x : Executed) (m : Memory) (b : Bool) → b ≡ loads (x .instruction) → b ≡ false → 0 ≡ cond (loads (x .instruction)) (load m (accessAddress x)) 0
-no-word x m b e h = cc
+pub no-word : (x : Executed) (m : Memory) (k : ℕ) → k ≡ accessKind x → (eqb k 1 || eqb k 2) ≡ false → 0 ≡ cond (loads (x .instruction)) (load m (accessAddress x)) 0
+unfolding loads
+no-word x m k q h = cc (loads-by (rowOf (x .instruction .code) .accesses))
 
 pub accessed-is : (x : Executed) (m : Memory) (v : ℕ) (s : Status) → v ≡ cond (loads (x .instruction)) (load m (accessAddress x)) 0 → s ≡ accessStatus x m
     → record { instruction = x .instruction; result = x .result; holds = x .holds; word = v; status = s } ≡ access x m
 unfolding access
 accessed-is x m v s e f = cc
 
-pub updated : (x : Executed) (m m′ : Memory) (b : Bool) (a v : ℕ) → b ≡ stores (x .instruction) → b ≡ true → a ≡ accessAddress x → v ≡ storedWord x
+pub updated : (x : Executed) (m m′ : Memory) (k a v : ℕ) → k ≡ accessKind x → (eqb k 3 || eqb k 4) ≡ true → a ≡ accessAddress x → v ≡ storedWord x
     → m′ ≡ store m a v → m′ ≡ newMemory x m
-unfolding newMemory
-updated x m m′ b a v e h p q r = cc
+unfolding newMemory stores
+updated x m m′ k a v q h e f p = cc (stores-by (rowOf (x .instruction .code) .accesses))
 
-pub left-alone : (x : Executed) (m : Memory) (b : Bool) → b ≡ stores (x .instruction) → b ≡ false → m ≡ newMemory x m
-unfolding newMemory
-left-alone x m b e h = cc
+pub left-alone : (x : Executed) (m : Memory) (k : ℕ) → k ≡ accessKind x → (eqb k 3 || eqb k 4) ≡ false → m ≡ newMemory x m
+unfolding newMemory stores
+left-alone x m k q h = cc (stores-by (rowOf (x .instruction .code) .accesses))

@@ -4,8 +4,9 @@ use mathlib.Core.Bool.{Bool, true, cond, _&&_}
 use lib.Dec.{ltb, eqb}
 use Rattle.machine.specs.declared.Instruction.{Instruction}
 use Rattle.machine.specs.declared.Decoded.{Decoded}
+use Rattle.machine.specs.declared.Executed.{Executed}
 use Rattle.machine.specs.Words.{sum, difference}
-use Rattle.machine.specs.Table.{RegisterByte, noByte, bothNamed, onlyB, onlyA, Which, none, rA, rB, rsp, Computes, nothing, bOpA, justA, justC, bPlusC, bLess8, bPlus8, Accesses, noAccess, loadsAtE, loadsAtA, storesA, storesNext}
+use Rattle.machine.specs.Table.{rowOf, RegisterByte, noByte, bothNamed, onlyB, onlyA, Which, none, rA, rB, rsp, Computes, nothing, bOpA, justA, justC, bPlusC, bLess8, bPlus8, Accesses, noAccess, loadsAtE, loadsAtA, storesA, storesNext}
 use Rattle.machine.specs.Stages.{operated}
 
 unfoldable pub byteNumber : RegisterByte → ℕ
@@ -35,6 +36,10 @@ accessesNumber loadsAtE = 1
 accessesNumber loadsAtA = 2
 accessesNumber storesA = 3
 accessesNumber storesNext = 4
+
+-- the number of an executed instruction's access, which is read once and handed on
+abbrev pub accessKind : Executed → ℕ
+accessKind x = accessesNumber (rowOf (x .instruction .code) .accesses)
 
 -- the decisions over such a number
 unfoldable pub halvesFitBy : ℕ → ℕ → ℕ → Bool

@@ -1,71 +1,52 @@
-// The memory stage.
+// The memory stage. The table is read once for an access, and its number handed on.
 use crate::rows::accesses_of;
 use machine::Accessed;
 use machine::Executed;
-use machine::Instruction;
 use machine::Status;
 ghost use mathlib.Core.Path.{_≡_};
 ghost use mathlib.Core.Bool.{cond};
 ghost use Rattle.machine.specs.Memory.{load as loadOf};
-ghost use Rattle.machine.specs.Stages.{loads as loadsOf, stores as storesOf, accessAddress, storedWord, accessStatus, access as accessOf, newMemory};
-
-fn loads(i: Instruction) -> bool
-    ensures { λ r. ⌜ r ≡ loadsOf i ⌝ }
-{
-    let kind = accesses_of(i.code);
-    (kind == 1) | (kind == 2)
-}
-
-fn stores(i: Instruction) -> bool
-    ensures { λ r. ⌜ r ≡ storesOf i ⌝ }
-{
-    let kind = accesses_of(i.code);
-    (kind == 3) | (kind == 4)
-}
+ghost use Rattle.machine.specs.Stages.{loads, accessAddress, storedWord, accessStatus, access as accessOf, newMemory};
+ghost use Rattle.isa.specs.Numbers.{accessKind};
 
 // popq and ret load from the old rsp.
-fn access_address(x: Executed) -> u64
+fn access_address(kind: u8, x: Executed) -> u64
+    requires { ⌜ kind ≡ accessKind x ⌝ }
     ensures { λ r. ⌜ r ≡ accessAddress x ⌝ }
 {
-    let i = x.instruction;
-    if accesses_of(i.code) == 2 {
-        x.a
-    } else {
-        x.result
-    }
+    if kind == 2 { x.a } else { x.result }
 }
 
 // call stores the next address.
-fn stored_word(x: Executed) -> u64
+fn stored_word(kind: u8, x: Executed) -> u64
+    requires { ⌜ kind ≡ accessKind x ⌝ }
     ensures { λ r. ⌜ r ≡ storedWord x ⌝ }
 {
     let i = x.instruction;
     let kept = x.a;
-    if accesses_of(i.code) == 4 {
-        i.next
-    } else {
-        kept
-    }
+    if kind == 4 { i.next } else { kept }
 }
 
 // An access outside memory is ADR, whatever the status was.
-fn access_status(x: Executed, memory: &[u8]) -> Status
+fn access_status(kind: u8, x: Executed, memory: &[u8]) -> Status
+    requires { ⌜ kind ≡ accessKind x ⌝ }
     ensures { λ r. ⌜ r ≡ accessStatus x (now (memory .entry)) ⌝ }
 {
     let i = x.instruction;
-    if (loads(i) | stores(i)) & !word::inside(memory, access_address(x)) {
+    if (kind != 0) & !word::inside(memory, access_address(kind, x)) {
         return Status::Adr;
     }
     i.status
 }
 
 // The word loaded, 0 where none is.
-fn loaded_word(x: Executed, memory: &[u8]) -> u64
-    ensures { λ r. ⌜ r ≡ cond (loadsOf (x .instruction)) (loadOf (now (memory .entry)) (accessAddress x)) 0 ⌝ }
+fn loaded_word(kind: u8, x: Executed, memory: &[u8]) -> u64
+    requires { ⌜ kind ≡ accessKind x ⌝ }
+    ensures { λ r. ⌜ r ≡ cond (loads (x .instruction)) (loadOf (now (memory .entry)) (accessAddress x)) 0 ⌝ }
 {
-    let i = x.instruction;
-    if loads(i) {
-        word::load(memory, access_address(x))
+    let loads = (kind == 1) | (kind == 2);
+    if loads {
+        word::load(memory, access_address(kind, x))
     } else {
         0
     }
@@ -75,8 +56,9 @@ pub fn access(x: Executed, memory: &[u8]) -> Accessed
     ensures { λ r. ⌜ r ≡ accessOf x (now (memory .entry)) ⌝ }
 {
     let i = x.instruction;
-    let word = loaded_word(x, memory);
-    let status = access_status(x, memory);
+    let kind = accesses_of(i.code);
+    let word = loaded_word(kind, x, memory);
+    let status = access_status(kind, x, memory);
     Accessed {
         instruction: i,
         result: x.result,
@@ -91,7 +73,9 @@ pub fn update(x: Executed, memory: &mut [u8])
     ensures { λ _. ⌜ now (memory .exit) ≡ newMemory x (now (memory .entry)) ⌝ }
 {
     let i = x.instruction;
-    if stores(i) {
-        word::store(memory, access_address(x), stored_word(x));
+    let kind = accesses_of(i.code);
+    let stores = (kind == 3) | (kind == 4);
+    if stores {
+        word::store(memory, access_address(kind, x), stored_word(kind, x));
     }
 }

@@ -3,9 +3,6 @@ use borrow.Author.Needs.{needs}
 use Rattle.isa.proofs.accessing.access_address.Statement.{statement}
 use Rattle.isa.proofs.accessing.access_address.Tie as tie
 
-accesses-of-requires : tie.Need-accesses-of-requires
-accesses-of-requires c κs = search needs
-
 returns : tie.Need-returns
 returns c = search (needs, at-a)
 
@@ -13,4 +10,4 @@ returns-2 : tie.Need-returns-2
 returns-2 c = search (needs, at-e)
 
 pub access-address-spec : {M : Type 1} → statement M
-access-address-spec = tie.close (tie.spec accesses-of-requires returns returns-2)
+access-address-spec = tie.close (tie.spec returns returns-2)

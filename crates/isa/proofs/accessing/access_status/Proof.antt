@@ -3,12 +3,6 @@ use borrow.Author.Needs.{needs}
 use Rattle.isa.proofs.accessing.access_status.Statement.{statement}
 use Rattle.isa.proofs.accessing.access_status.Tie as tie
 
-loads-requires : tie.Need-loads-requires
-loads-requires c κs = search needs
-
-stores-requires : tie.Need-stores-requires
-stores-requires c κs = search needs
-
 access-address-requires : tie.Need-access-address-requires
 access-address-requires c κs = search needs
 
@@ -22,12 +16,4 @@ returns-2 : tie.Need-returns-2
 returns-2 c = search (needs, sound)
 
 pub access-status-spec : {M : Type 1} → statement M
-access-status-spec =
-    tie.close
-    (tie.spec
-    loads-requires
-    stores-requires
-    access-address-requires
-    inside-requires
-    returns
-    returns-2)
+access-status-spec = tie.close (tie.spec access-address-requires inside-requires returns returns-2)

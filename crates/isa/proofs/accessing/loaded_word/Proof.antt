@@ -3,9 +3,6 @@ use borrow.Author.Needs.{needs}
 use Rattle.isa.proofs.accessing.loaded_word.Statement.{statement}
 use Rattle.isa.proofs.accessing.loaded_word.Tie as tie
 
-loads-requires : tie.Need-loads-requires
-loads-requires c κs = search needs
-
 access-address-requires : tie.Need-access-address-requires
 access-address-requires c κs = search needs
 
@@ -19,5 +16,4 @@ returns-2 : tie.Need-returns-2
 returns-2 c = search (needs, no-word)
 
 pub loaded-word-spec : {M : Type 1} → statement M
-loaded-word-spec =
-    tie.close (tie.spec loads-requires access-address-requires load-requires returns returns-2)
+loaded-word-spec = tie.close (tie.spec access-address-requires load-requires returns returns-2)

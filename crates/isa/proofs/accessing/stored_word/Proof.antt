@@ -3,9 +3,6 @@ use borrow.Author.Needs.{needs}
 use Rattle.isa.proofs.accessing.stored_word.Statement.{statement}
 use Rattle.isa.proofs.accessing.stored_word.Tie as tie
 
-accesses-of-requires : tie.Need-accesses-of-requires
-accesses-of-requires c κs = search needs
-
 returns : tie.Need-returns
 returns c = search (needs, next-stored)
 
@@ -13,4 +10,4 @@ returns-2 : tie.Need-returns-2
 returns-2 c = search (needs, a-stored)
 
 pub stored-word-spec : {M : Type 1} → statement M
-stored-word-spec = tie.close (tie.spec accesses-of-requires returns returns-2)
+stored-word-spec = tie.close (tie.spec returns returns-2)

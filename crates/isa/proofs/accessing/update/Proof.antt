@@ -3,8 +3,8 @@ use borrow.Author.Needs.{needs}
 use Rattle.isa.proofs.accessing.update.Statement.{statement}
 use Rattle.isa.proofs.accessing.update.Tie as tie
 
-stores-requires : tie.Need-stores-requires
-stores-requires c κs = search needs
+accesses-of-requires : tie.Need-accesses-of-requires
+accesses-of-requires c κs = search needs
 
 access-address-requires : tie.Need-access-address-requires
 access-address-requires c κs = search needs
@@ -28,7 +28,7 @@ pub update-spec : {M : Type 1} → statement M
 update-spec =
     tie.close
     (tie.spec
-    stores-requires
+    accesses-of-requires
     access-address-requires
     stored-word-requires
     store-requires
