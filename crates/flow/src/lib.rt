@@ -12,12 +12,15 @@ use stage::controls::next_d;
 use stage::controls::next_e;
 use stage::controls::next_f;
 use stage::controls::next_m;
+use stage::controls::next_targets;
+use stage::forwarding::Sources;
+use stage::forwarding::Targets;
 use stage::forwarding::decode_d;
-use stage::forwarding::past_e;
-use stage::forwarding::past_w;
+use stage::forwarding::sources_d;
+use stage::forwarding::targets_m;
 use stage::signals::bad_in_w;
+use stage::signals::meets_either;
 use stage::signals::ret_on_the_way;
-use stage::signals::waits_behind;
 use stage::signals::wrong;
 use stage::working::after_e;
 use stage::working::after_m;
@@ -27,7 +30,7 @@ ghost use mathlib.Core.Path.{_≡_};
 ghost use Rattle.machine.specs.Pipeline.{memoryAfter, registersAfter};
 ghost use Rattle.flow.specs.Moving.{signalsOf, fetchedIn, decodedIn, flowAfter};
 
-// F to W with the codes: what a clock works on, without registers and counts.
+// F to W with the codes: what a clock works on, without registers and counts. The targets of M and W are carried beside them.
 pub struct Flow {
     pub predicted: u64,
     pub d: StageD,
@@ -35,6 +38,8 @@ pub struct Flow {
     pub m: StageM,
     pub w: StageW,
     pub codes: Codes,
+    pub targets_m: Targets,
+    pub targets_w: Targets,
 }
 
 // What the controls go by.
@@ -45,11 +50,19 @@ pub struct Signals {
     pub fails: bool,
 }
 
-fn signals_now(d: StageD, e: StageE, m: StageM, executed: StageM, accessed: StageW) -> Signals
-    ensures { λ r. ⌜ r ≡ signalsOf d e m executed accessed ⌝ }
+fn signals_now(
+    sources: Sources,
+    targets: Targets,
+    d: StageD,
+    e: StageE,
+    m: StageM,
+    executed: StageM,
+    accessed: StageW,
+) -> Signals
+    ensures { λ r. ⌜ r ≡ signalsOf sources targets d e m executed accessed ⌝ }
 {
     Signals {
-        waits: waits_behind(e, d),
+        waits: meets_either(targets.loaded, sources.a, sources.b),
         mispredicts: wrong(executed),
         returns: ret_on_the_way(d, e, m),
         fails: bad_in_w(accessed),
@@ -62,23 +75,9 @@ fn fetch_now(m: StageM, w: StageW, predicted: u64, memory: &[u8]) -> Instruction
     fetch(memory, fetch_address(m, w, predicted))
 }
 
-fn decode_now(
-    d: StageD,
-    executed: StageM,
-    accessed: StageW,
-    w: StageW,
-    registers: &[u64; 15],
-) -> StageE
-    ensures { λ r. ⌜ r ≡ decodedIn d executed accessed w (now (registers .entry)) ⌝ }
-{
-    let behind_e = past_e(executed);
-    let behind_m = past_w(accessed);
-    let behind_w = past_w(w);
-    decode_d(d, behind_e, behind_m, behind_w, registers)
-}
-
-// A clock in which no bad status stands in W: all is read before memory and registers are written.
+// A clock in which no bad status stands in W, which writes its registers before decode reads them.
 pub fn advance(flow: Flow, registers: &mut [u64; 15], memory: &mut [u8]) -> Flow
+    requires { ⌜ Carried flow ⌝ }
     ensures { λ r. ⌜ (r ≡ flowAfter flow (now (registers .entry)) (now (memory .entry))) × (now (registers .exit) ≡ registersAfter (flow .w) (now (registers .entry))) × (now (memory .exit) ≡ memoryAfter (flow .m) (now (memory .entry))) ⌝ }
 {
     let d = flow.d;
@@ -86,13 +85,25 @@ pub fn advance(flow: Flow, registers: &mut [u64; 15], memory: &mut [u8]) -> Flow
     let m = flow.m;
     let w = flow.w;
     let codes = flow.codes;
+    let carried_m = flow.targets_m;
+    let carried_w = flow.targets_w;
     let executed = after_e(e, codes);
     let accessed = after_m(m, memory);
     let fetched = fetch_now(m, w, flow.predicted, memory);
-    let decoded = decode_now(d, executed, accessed, w, registers);
+    registers_after(carried_w, w, registers);
+    let targets = targets_m(executed);
+    let sources = sources_d(d);
+    let decoded = decode_d(
+        d,
+        sources,
+        targets,
+        executed,
+        carried_m,
+        accessed,
+        registers,
+    );
     memory_after(m, memory);
-    registers_after(w, registers);
-    let s = signals_now(d, e, m, executed, accessed);
+    let s = signals_now(sources, targets, d, e, m, executed, accessed);
     Flow {
         predicted: next_f(s.waits | s.returns, flow.predicted, fetched),
         d: next_d(s.mispredicts, s.waits, s.returns, d, fetched),
@@ -100,5 +111,7 @@ pub fn advance(flow: Flow, registers: &mut [u64; 15], memory: &mut [u8]) -> Flow
         m: next_m(s.fails, executed),
         w: accessed,
         codes: next_codes(s.fails, e, codes),
+        targets_m: next_targets(s.fails, targets),
+        targets_w: carried_m,
     }
 }

@@ -1,20 +1,22 @@
 -- One law for each way out of a function, over variables for what its callees gave. Assumes nothing.
 use mathlib.Core.Path.{_≡_, refl}
 use mathlib.Core.Bool.{Bool, true, false, cond, not, _&&_, _||_}
-use Prim.Native.Nat.{ℕ, _+_}
+use Prim.Native.Nat.{ℕ, _+_, _≤_, _<_}
 use lib.Dec.{eqb, ltb}
-use borrow.Author.Tests.{eq-eqb, ne-eqb}
+use lib.ListN.{getD}
+use borrow.Author.Tests.{lt-ltb, le-ltb, eq-eqb, ne-eqb}
 use Rattle.stage.specs.Types.{aok, Codes, Instruction, Decoded, Executed, Accessed, Retired, StageD, bubbleD, inD, StageE, bubbleE, inE, StageM, bubbleM, inM, StageW, bubbleW, inW, Kept, noneKept, lastKept, Kinds}
 use Rattle.machine.specs.Types.{isBad}
-use Rattle.machine.specs.Memory.{Memory, Registers, value}
+use Rattle.machine.specs.Memory.{Memory, Registers, value, written}
 use Rattle.machine.specs.Table.{is}
 use Rattle.machine.specs.Stages.{decode, execute, access, newCodes, newMemory, newRegisters, sourceA, sourceB, resultTarget, loadedTarget, turned, straight}
 use Rattle.machine.specs.Prediction.{asIn01, guess, predictedNext, mispredicted, meets, loadUse}
 use Rattle.machine.specs.Charges.{Reason, free, waited, wronglyGuessed, returned, amount, reasonBehind, reasonFrom, counted, retiredOf}
 use Rattle.machine.specs.Pipeline.{afterE, afterM, codesAfter, memoryAfter, registersAfter, waitsBehind, wrong, retInD, retInE, retInM, badInW, returnedTo, mended, lastAfter, retiredAfter, kindsAfter, keptAfter}
-use Rattle.stage.specs.declared.forwarding.Past.{Past}
+use Rattle.stage.specs.declared.forwarding.Targets.{Targets}
+use Rattle.stage.specs.declared.forwarding.Sources.{Sources}
 use Rattle.stage.specs.declared.retiring.Tally.{Tally}
-use Rattle.stage.specs.Forwarding.{pastE, pastW, pastBy, sourceBy, decodedBy}
+use Rattle.stage.specs.Forwarding.{noTargets, targetsM, targetsW, sourcesD, resultM, resultW, wordW, writtenBy, sourceBy, decodedBy}
 use Rattle.stage.specs.Retiring.{countedBy, keptBy, retires, statusAfter, tallyAfter}
 
 -- THE WORK OF A STAGE
@@ -50,14 +52,6 @@ pub memory-new : (s : StageM) (m m′ : Memory) (x : Executed) → s ≡ inM x �
 unfolding memoryAfter
 memory-new s m m′ x h p = cc
 
-pub registers-stay : (w : StageW) (r : Registers) → w ≡ bubbleW → r ≡ registersAfter w r
-unfolding registersAfter
-registers-stay w r h = cc
-
-pub registers-new : (w : StageW) (r r′ : Registers) (x : Accessed) → w ≡ inW x → r′ ≡ newRegisters x r → r′ ≡ registersAfter w r
-unfolding registersAfter
-registers-new w r r′ x h p = cc
-
 -- SIGNALS
 pub meets-is : (t q : ℕ) → ltb q 15 && eqb t q ≡ meets t q
 unfolding meets
@@ -65,19 +59,6 @@ meets-is t q = refl
 
 pub meets-one : (l a b : ℕ) (x y : Bool) → x ≡ meets l a → y ≡ meets l b → (x || y) ≡ (meets l a || meets l b)
 meets-one l a b x y p q = cc
-
-pub no-e : (e : StageE) (d : StageD) → e ≡ bubbleE → false ≡ waitsBehind asIn01 e d
-unfolding waitsBehind
-no-e e d h = cc
-
-pub no-d : (e : StageE) (d : StageD) (x : Decoded) → e ≡ inE x → d ≡ bubbleD → false ≡ waitsBehind asIn01 e d
-unfolding waitsBehind
-no-d e d x h k = cc
-
-pub d-behind-e : (e : StageE) (d : StageD) (x : Decoded) (j : Instruction) (l a s : ℕ) (b : Bool) → e ≡ inE x → d ≡ inD j
-    → l ≡ loadedTarget (x .instruction) → a ≡ sourceA j → s ≡ sourceB j → b ≡ (meets l a || meets l s) → b ≡ waitsBehind asIn01 e d
-unfolding waitsBehind loadUse
-d-behind-e e d x j l a s b h k p q u v = cc
 
 pub guessed : (i : Instruction) (h : Bool) → eqb (i .code) 7 && not h ≡ mispredicted asIn01 i h
 unfolding mispredicted guess is
@@ -127,47 +108,92 @@ pub bad-in : (w : StageW) (x : Accessed) (b : Bool) → w ≡ inW x → b ≡ is
 unfolding badInW
 bad-in w x b h p = cc
 
--- SOURCES
-pub nothing-past-e : (s : StageM) → s ≡ bubbleM → record { target = 15; result = 0; loaded = 15; word = 0 } ≡ pastE s
-unfolding pastE
-nothing-past-e s h = cc
+-- SOURCES AND TARGETS
+pub no-sources : (d : StageD) → d ≡ bubbleD → record { a = 15; b = 15 } ≡ sourcesD d
+unfolding sourcesD
+no-sources d h = cc
 
-pub past-e : (s : StageM) (x : Executed) (t : ℕ) → s ≡ inM x → t ≡ resultTarget (x .instruction) (x .holds) → record { target = t; result = x .result; loaded = 15; word = 0 } ≡ pastE s
-unfolding pastE
-past-e s x t h p = cc
+pub sources : (d : StageD) (i : Instruction) (p q : ℕ) → d ≡ inD i → p ≡ sourceA i → q ≡ sourceB i → record { a = p; b = q } ≡ sourcesD d
+unfolding sourcesD
+sources d i p q h e f = cc
 
-pub nothing-past-w : (w : StageW) → w ≡ bubbleW → record { target = 15; result = 0; loaded = 15; word = 0 } ≡ pastW w
-unfolding pastW
-nothing-past-w w h = cc
+pub no-targets-m : (s : StageM) → s ≡ bubbleM → noTargets ≡ targetsM s
+unfolding targetsM
+no-targets-m s h = cc
 
-pub past-w : (w : StageW) (x : Accessed) (t l : ℕ) → w ≡ inW x → t ≡ resultTarget (x .instruction) (x .holds) → l ≡ loadedTarget (x .instruction) → record { target = t; result = x .result; loaded = l; word = x .word } ≡ pastW w
-unfolding pastW
-past-w w x t l h p q = cc
+pub targets-of-m : (s : StageM) (x : Executed) (t l : ℕ) → s ≡ inM x → t ≡ resultTarget (x .instruction) (x .holds) → l ≡ loadedTarget (x .instruction) → record { result = t; loaded = l } ≡ targetsM s
+unfolding targetsM
+targets-of-m s x t l h p q = cc
 
-pub by-word : (p : Past) (q v : ℕ) (b : Bool) → b ≡ meets (p .loaded) q → b ≡ true → p .word ≡ pastBy p q v
-unfolding pastBy
-by-word p q v b e h = cc
+pub no-targets-w : (w : StageW) → w ≡ bubbleW → noTargets ≡ targetsW w
+unfolding targetsW
+no-targets-w w h = cc
 
-pub by-result : (p : Past) (q v : ℕ) (b c : Bool) → b ≡ meets (p .loaded) q → b ≡ false → c ≡ meets (p .target) q → c ≡ true → p .result ≡ pastBy p q v
-unfolding pastBy
-by-result p q v b c e h f k = cc
+pub targets-of-w : (w : StageW) (x : Accessed) (t l : ℕ) → w ≡ inW x → t ≡ resultTarget (x .instruction) (x .holds) → l ≡ loadedTarget (x .instruction) → record { result = t; loaded = l } ≡ targetsW w
+unfolding targetsW
+targets-of-w w x t l h p q = cc
 
-pub from-behind : (p : Past) (q v : ℕ) (b c : Bool) → b ≡ meets (p .loaded) q → b ≡ false → c ≡ meets (p .target) q → c ≡ false → v ≡ pastBy p q v
-unfolding pastBy
-from-behind p q v b c e h f k = cc
+pub no-result-m : (s : StageM) → s ≡ bubbleM → 0 ≡ resultM s
+unfolding resultM
+no-result-m s h = cc
 
-pub in-order : (e m w : Past) (r : Registers) (q v x y z : ℕ) → v ≡ value r q → x ≡ pastBy w q v → y ≡ pastBy m q x → z ≡ pastBy e q y → z ≡ sourceBy e m w r q
-unfolding sourceBy
-in-order e m w r q v x y z f g h k = cc
+pub result-of-m : (s : StageM) (x : Executed) → s ≡ inM x → x .result ≡ resultM s
+unfolding resultM
+result-of-m s x h = cc
 
-pub no-decode : (e m w : Past) (r : Registers) (d : StageD) → d ≡ bubbleD → bubbleE ≡ decodedBy e m w r d
+pub no-result-w : (w : StageW) → w ≡ bubbleW → 0 ≡ resultW w
+unfolding resultW
+no-result-w w h = cc
+
+pub result-of-w : (w : StageW) (x : Accessed) → w ≡ inW x → x .result ≡ resultW w
+unfolding resultW
+result-of-w w x h = cc
+
+pub no-word-w : (w : StageW) → w ≡ bubbleW → 0 ≡ wordW w
+unfolding wordW
+no-word-w w h = cc
+
+pub word-of-w : (w : StageW) (x : Accessed) → w ≡ inW x → x .word ≡ wordW w
+unfolding wordW
+word-of-w w x h = cc
+
+pub writes : (t : Targets) (w : StageW) (v x : ℕ) (r s z : Registers) → v ≡ resultW w → s ≡ written r (t .result) v → x ≡ wordW w → z ≡ written s (t .loaded) x → z ≡ writtenBy t w r
+unfolding writtenBy
+writes t w v x r s z p q e f = cc
+
+-- the first match
+module _ (t : Targets) (x : StageM) (u : Targets) (y : StageW) (r : Registers) (q : ℕ) where
+  pub no-source : 15 ≤ q → 0 ≡ sourceBy t x u y r q
+  unfolding sourceBy
+  no-source h = cc (le-ltb q 15 h)
+
+  module _ (low : q < 15) where
+    pub from-e : t .result ≡ q → (v : ℕ) → v ≡ resultM x → v ≡ sourceBy t x u y r q
+    unfolding sourceBy
+    from-e e v p = cc (lt-ltb q 15 low, eq-eqb (t .result) q e)
+
+    module _ (e : t .result ≡ q → ⊥) where
+      pub word-from-m : u .loaded ≡ q → (v : ℕ) → v ≡ wordW y → v ≡ sourceBy t x u y r q
+      unfolding sourceBy
+      word-from-m f v p = cc (lt-ltb q 15 low, ne-eqb (t .result) q e, eq-eqb (u .loaded) q f)
+
+      module _ (f : u .loaded ≡ q → ⊥) where
+        pub result-from-m : u .result ≡ q → (v : ℕ) → v ≡ resultW y → v ≡ sourceBy t x u y r q
+        unfolding sourceBy
+        result-from-m g v p = cc (lt-ltb q 15 low, ne-eqb (t .result) q e, ne-eqb (u .loaded) q f, eq-eqb (u .result) q g)
+
+        pub from-file : (u .result ≡ q → ⊥) → getD r q 0 ≡ sourceBy t x u y r q
+        unfolding sourceBy value
+        from-file g = cc (lt-ltb q 15 low, ne-eqb (t .result) q e, ne-eqb (u .loaded) q f, ne-eqb (u .result) q g)
+
+pub no-decode : (s : Sources) (t : Targets) (x : StageM) (u : Targets) (y : StageW) (r : Registers) (d : StageD) → d ≡ bubbleD → bubbleE ≡ decodedBy s t x u y r d
 unfolding decodedBy
-no-decode e m w r d h = cc
+no-decode s t x u y r d h = cc
 
-pub decodes : (e m w : Past) (r : Registers) (d : StageD) (i : Instruction) (p q a b : ℕ) → d ≡ inD i → p ≡ sourceA i → a ≡ sourceBy e m w r p → q ≡ sourceB i → b ≡ sourceBy e m w r q
-    → inE (record { instruction = i; a = a; b = b }) ≡ decodedBy e m w r d
-unfolding decodedBy decode
-decodes e m w r d i p q a b h f g k l = cc
+pub decodes : (s : Sources) (t : Targets) (x : StageM) (u : Targets) (y : StageW) (r : Registers) (d : StageD) (i : Instruction) (a b : ℕ) → d ≡ inD i
+    → a ≡ sourceBy t x u y r (s .a) → b ≡ sourceBy t x u y r (s .b) → inE (record { instruction = i; a = a; b = b }) ≡ decodedBy s t x u y r d
+unfolding decodedBy
+decodes s t x u y r d i a b h p q = cc
 
 -- ADDRESSES
 pub no-w : (w : StageW) (f : ℕ) → w ≡ bubbleW → f ≡ returnedTo w f
@@ -233,13 +259,16 @@ pub charged : (k : Kept) (j : Instruction) (x : Retired) (n : ℕ) → k ≡ las
 unfolding reasonFrom
 charged k j x n h p = cc
 
-pub keeps : (x : Accessed) (k : Kept) (b : Bool) → b ≡ isBad (x .status) → b ≡ true → k ≡ keptBy x k
+pub keeps : (x : Accessed) (k l : Kept) (b : Bool) → b ≡ isBad (x .status) → b ≡ true → l ≡ k → l ≡ keptBy x k
 unfolding keptBy
-keeps x k b e h = cc
+keeps x k l b e h p = cc
 
-pub kept-now : (x : Accessed) (k : Kept) (b : Bool) → b ≡ isBad (x .status) → b ≡ false → lastKept (record { instruction = x .instruction; holds = x .holds }) ≡ keptBy x k
+pub kept-now : (x : Accessed) (k : Kept) (i : Instruction) (b : Bool) → b ≡ isBad (x .status) → b ≡ false → i ≡ x .instruction → lastKept (record { instruction = i; holds = x .holds }) ≡ keptBy x k
 unfolding keptBy retiredOf
-kept-now x k b e h = cc
+kept-now x k i b e h p = cc
+
+pub kept-afresh : (k : Kept) (r : Retired) (i : Instruction) → k ≡ lastKept r → i ≡ r .instruction → lastKept (record { instruction = i; holds = r .holds }) ≡ k
+kept-afresh k r i h p = rw (h, p)
 
 -- an amount tells its reason
 counted-by : (t : Kinds) (r : Reason) → countedBy t (amount r) ≡ counted t r
@@ -278,5 +307,17 @@ status-of-w w x h = cc
 pub goes-on : {A : Type 0} (b : Bool) (x y v : A) → b ≡ false → v ≡ y → v ≡ cond b x y
 goes-on b x y v h p = cc
 
-pub enters-d : (m w r : Bool) (d : StageD) (i : Instruction) → m ≡ false → w ≡ false → r ≡ false → inD i ≡ cond m bubbleD (cond w d (cond r bubbleD (inD i)))
-enters-d m w r d i h k l = cc
+pub holds-d : (d e : StageD) (i : Instruction) (m w r : Bool) → m ≡ false → w ≡ true → e ≡ d → e ≡ cond m bubbleD (cond w d (cond r bubbleD (inD i)))
+holds-d d e i m w r f g p = cc
+
+pub returning-d : (d : StageD) (i : Instruction) (m w r : Bool) → m ≡ false → w ≡ false → r ≡ true → bubbleD ≡ cond m bubbleD (cond w d (cond r bubbleD (inD i)))
+returning-d d i m w r f g h = cc
+
+pub enters-d : (d : StageD) (i j : Instruction) (m w r : Bool) → m ≡ false → w ≡ false → r ≡ false → j ≡ i → inD j ≡ cond m bubbleD (cond w d (cond r bubbleD (inD i)))
+enters-d d i j m w r f g h p = cc
+
+pub d-afresh : (d : StageD) (i j : Instruction) → d ≡ inD i → j ≡ i → inD j ≡ d
+d-afresh d i j h p = cc
+
+pub no-more-targets : (t : Targets) (b : Bool) → b ≡ true → noTargets ≡ cond b noTargets t
+no-more-targets t b h = cc

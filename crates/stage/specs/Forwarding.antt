@@ -1,32 +1,48 @@
--- What an instruction hands to those behind it, taken out of its stage once for both sources.
+-- Sources and targets, taken out of the stages once, and decode by them.
 use Prim.Native.Nat.{ℕ}
 use mathlib.Core.Bool.{cond}
+use lib.Dec.{eqb, ltb}
 use Rattle.stage.specs.Types.{StageD, bubbleD, inD, StageE, bubbleE, inE, StageM, bubbleM, inM, StageW, bubbleW, inW}
-use Rattle.machine.specs.Memory.{Registers, value}
-use Rattle.machine.specs.Stages.{decode, resultTarget, loadedTarget}
-use Rattle.machine.specs.Prediction.{meets}
-use Rattle.stage.specs.declared.forwarding.Past.{Past}
+use Rattle.machine.specs.Memory.{Registers, value, written}
+use Rattle.machine.specs.Stages.{sourceA, sourceB, resultTarget, loadedTarget}
+use Rattle.stage.specs.declared.forwarding.Targets.{Targets}
+use Rattle.stage.specs.declared.forwarding.Sources.{Sources}
 
-unfoldable pub pastE : StageM → Past
-pastE bubbleM = record { target = 15; result = 0; loaded = 15; word = 0 }
-pastE (inM x) = record { target = resultTarget (x .instruction) (x .holds); result = x .result; loaded = 15; word = 0 }
+abbrev pub noTargets : Targets
+noTargets = record { result = 15; loaded = 15 }
 
-unfoldable pub pastW : StageW → Past
-pastW bubbleW = record { target = 15; result = 0; loaded = 15; word = 0 }
-pastW (inW x) =
-    record {
-      target = resultTarget (x .instruction) (x .holds);
-      result = x .result;
-      loaded = loadedTarget (x .instruction);
-      word = x .word;
-    }
+unfoldable pub targetsM : StageM → Targets
+targetsM bubbleM = noTargets
+targetsM (inM x) = record { result = resultTarget (x .instruction) (x .holds); loaded = loadedTarget (x .instruction) }
 
-unfoldable pub pastBy : Past → ℕ → ℕ → ℕ
-pastBy p q v = cond (meets (p .loaded) q) (p .word) (cond (meets (p .target) q) (p .result) v)
+unfoldable pub targetsW : StageW → Targets
+targetsW bubbleW = noTargets
+targetsW (inW x) = record { result = resultTarget (x .instruction) (x .holds); loaded = loadedTarget (x .instruction) }
 
-unfoldable pub sourceBy : Past → Past → Past → Registers → ℕ → ℕ
-sourceBy e m w r q = pastBy e q (pastBy m q (pastBy w q (value r q)))
+unfoldable pub sourcesD : StageD → Sources
+sourcesD bubbleD = record { a = 15; b = 15 }
+sourcesD (inD i) = record { a = sourceA i; b = sourceB i }
 
-unfoldable pub decodedBy : Past → Past → Past → Registers → StageD → StageE
-decodedBy e m w r bubbleD = bubbleE
-decodedBy e m w r (inD i) = inE (decode i (sourceBy e m w r))
+-- a bubble's values are 0, and go nowhere
+unfoldable pub resultM : StageM → ℕ
+resultM bubbleM = 0
+resultM (inM x) = x .result
+
+unfoldable pub resultW : StageW → ℕ
+resultW bubbleW = 0
+resultW (inW x) = x .result
+
+unfoldable pub wordW : StageW → ℕ
+wordW bubbleW = 0
+wordW (inW x) = x .word
+
+unfoldable pub writtenBy : Targets → StageW → Registers → Registers
+writtenBy t w r = written (written r (t .result) (resultW w)) (t .loaded) (wordW w)
+
+-- "the first match of: result in E, word loaded in M, result in M": t and u are the targets of what stood in E and M
+unfoldable pub sourceBy : Targets → StageM → Targets → StageW → Registers → ℕ → ℕ
+sourceBy t x u y r q = cond (ltb q 15) (cond (eqb (t .result) q) (resultM x) (cond (eqb (u .loaded) q) (wordW y) (cond (eqb (u .result) q) (resultW y) (value r q)))) 0
+
+unfoldable pub decodedBy : Sources → Targets → StageM → Targets → StageW → Registers → StageD → StageE
+decodedBy s t x u y r bubbleD = bubbleE
+decodedBy s t x u y r (inD i) = inE (record { instruction = i; a = sourceBy t x u y r (s .a); b = sourceBy t x u y r (s .b) })

@@ -1,5 +1,6 @@
 // The controls at the end of a clock: each stage is held, given a bubble, or goes on.
 use crate::addresses::predicted_next;
+use crate::forwarding::Targets;
 use crate::working::codes_after;
 use machine::Codes;
 use machine::Instruction;
@@ -9,6 +10,7 @@ use machine::StageM;
 ghost use mathlib.Core.Path.{_≡_};
 ghost use mathlib.Core.Bool.{cond};
 ghost use Rattle.stage.specs.Types.{bubbleD, inD, bubbleE, bubbleM};
+ghost use Rattle.stage.specs.Forwarding.{noTargets};
 ghost use Rattle.machine.specs.Prediction.{asIn01, predictedNext};
 ghost use Rattle.machine.specs.Pipeline.{codesAfter};
 
@@ -20,6 +22,32 @@ pub fn next_f(held: bool, predicted: u64, fetched: Instruction) -> u64
         predicted
     } else {
         predicted_next(fetched)
+    }
+}
+
+// Field by field: two branches that each hand on a whole struct are compiled to one copy of it in memory.
+pub fn afresh(i: Instruction) -> Instruction
+    ensures { λ r. ⌜ r ≡ i ⌝ }
+{
+    let status = i.status;
+    Instruction {
+        address: i.address,
+        status,
+        code: i.code,
+        function: i.function,
+        ra: i.ra,
+        rb: i.rb,
+        constant: i.constant,
+        next: i.next,
+    }
+}
+
+fn held_d(d: StageD) -> StageD
+    ensures { λ r. ⌜ r ≡ d ⌝ }
+{
+    match d {
+        StageD::BubbleD => StageD::BubbleD,
+        StageD::InD(i) => StageD::InD(afresh(i)),
     }
 }
 
@@ -37,12 +65,12 @@ pub fn next_d(
         return StageD::BubbleD;
     }
     if waits {
-        return d;
+        return held_d(d);
     }
     if returns {
         StageD::BubbleD
     } else {
-        StageD::InD(fetched)
+        StageD::InD(afresh(fetched))
     }
 }
 
@@ -58,6 +86,20 @@ pub fn next_m(fails: bool, executed: StageM) -> StageM
     ensures { λ r. ⌜ r ≡ cond fails bubbleM executed ⌝ }
 {
     if fails { StageM::BubbleM } else { executed }
+}
+
+// The targets of what goes into M.
+pub fn next_targets(fails: bool, executed: Targets) -> Targets
+    ensures { λ r. ⌜ r ≡ cond fails noTargets executed ⌝ }
+{
+    if fails {
+        Targets {
+            result: 15,
+            loaded: 15,
+        }
+    } else {
+        executed
+    }
 }
 
 // OPq behind a bad status in M sets no codes.

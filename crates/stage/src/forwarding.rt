@@ -1,103 +1,148 @@
-// Decode's sources, forwarded past what stands in E, M and W.
-use crate::signals::meets;
+// Sources and targets, and decode with what is forwarded to it.
 use isa::decoding::loaded_target;
 use isa::decoding::result_target;
 use isa::decoding::source_a;
 use isa::decoding::source_b;
-use isa::decoding::value;
 use machine::Decoded;
 use machine::StageD;
 use machine::StageE;
 use machine::StageM;
 use machine::StageW;
 ghost use mathlib.Core.Path.{_≡_};
-ghost use Rattle.stage.specs.Forwarding.{pastE, pastW, pastBy, sourceBy, decodedBy};
+ghost use Rattle.stage.specs.Forwarding.{targetsM, targetsW, sourcesD, resultM, resultW, wordW, sourceBy, decodedBy};
 
-// What an instruction has for those behind it: its result and its loaded word with their targets, 15 for none.
-pub struct Past {
-    pub target: u8,
-    pub result: u64,
+// The registers that an instruction writes, 15 for none: worked out in E, and carried on from there.
+pub struct Targets {
+    pub result: u8,
     pub loaded: u8,
-    pub word: u64,
 }
 
-// What E's instruction has after execution: its result alone.
-pub fn past_e(executed: StageM) -> Past
-    ensures { λ r. ⌜ r ≡ pastE executed ⌝ }
+// The registers that D's instruction reads, 15 for none.
+pub struct Sources {
+    pub a: u8,
+    pub b: u8,
+}
+
+pub fn sources_d(d: StageD) -> Sources
+    ensures { λ r. ⌜ r ≡ sourcesD d ⌝ }
 {
-    match executed {
-        StageM::BubbleM => Past {
-            target: 15,
-            result: 0,
+    match d {
+        StageD::BubbleD => Sources { a: 15, b: 15 },
+        StageD::InD(i) => Sources {
+            a: source_a(i),
+            b: source_b(i),
+        },
+    }
+}
+
+// E's instruction after execution, or M's.
+pub fn targets_m(m: StageM) -> Targets
+    ensures { λ r. ⌜ r ≡ targetsM m ⌝ }
+{
+    match m {
+        StageM::BubbleM => Targets {
+            result: 15,
             loaded: 15,
-            word: 0,
         },
         StageM::InM(x) => {
             let i = x.instruction;
-            Past {
-                target: result_target(i, x.holds),
-                result: x.result,
-                loaded: 15,
-                word: 0,
+            Targets {
+                result: result_target(i, x.holds),
+                loaded: loaded_target(i),
             }
         }
     }
 }
 
-// What W's instruction has, or M's after its access.
-pub fn past_w(accessed: StageW) -> Past
-    ensures { λ r. ⌜ r ≡ pastW accessed ⌝ }
+pub fn targets_w(w: StageW) -> Targets
+    ensures { λ r. ⌜ r ≡ targetsW w ⌝ }
 {
-    match accessed {
-        StageW::BubbleW => Past {
-            target: 15,
-            result: 0,
+    match w {
+        StageW::BubbleW => Targets {
+            result: 15,
             loaded: 15,
-            word: 0,
         },
         StageW::InW(x) => {
             let i = x.instruction;
-            Past {
-                target: result_target(i, x.holds),
-                result: x.result,
+            Targets {
+                result: result_target(i, x.holds),
                 loaded: loaded_target(i),
-                word: x.word,
             }
         }
     }
 }
 
-// The loaded word first, then the result, else what lies behind.
-fn forwarded(past: Past, q: u8, behind: u64) -> u64
-    ensures { λ r. ⌜ r ≡ pastBy past q behind ⌝ }
+fn result_m(m: StageM) -> u64
+    ensures { λ r. ⌜ r ≡ resultM m ⌝ }
 {
-    if meets(past.loaded, q) {
-        return past.word;
+    match m {
+        StageM::BubbleM => 0,
+        StageM::InM(x) => x.result,
     }
-    if meets(past.target, q) {
-        return past.result;
-    }
-    behind
 }
 
-// Document 01's six steps: result in E, word and result in M, word and result in W, register file.
-fn source(e: Past, m: Past, w: Past, registers: &[u64; 15], q: u8) -> u64
-    ensures { λ r. ⌜ r ≡ sourceBy e m w (now (registers .entry)) q ⌝ }
+pub fn result_w(w: StageW) -> u64
+    ensures { λ r. ⌜ r ≡ resultW w ⌝ }
 {
-    let file = value(registers, q);
-    let behind_m = forwarded(w, q, file);
-    let behind_e = forwarded(m, q, behind_m);
-    forwarded(e, q, behind_e)
+    match w {
+        StageW::BubbleW => 0,
+        StageW::InW(x) => x.result,
+    }
 }
 
-pub fn decode_d(d: StageD, e: Past, m: Past, w: Past, registers: &[u64; 15]) -> StageE
-    ensures { λ r. ⌜ r ≡ decodedBy e m w (now (registers .entry)) d ⌝ }
+pub fn word_w(w: StageW) -> u64
+    ensures { λ r. ⌜ r ≡ wordW w ⌝ }
+{
+    match w {
+        StageW::BubbleW => 0,
+        StageW::InW(x) => x.word,
+    }
+}
+
+// "the first match of: result in E, word loaded in M, result in M", then the register file, which W has written by now.
+fn source(
+    t: Targets,
+    executed: StageM,
+    u: Targets,
+    accessed: StageW,
+    registers: &[u64; 15],
+    q: u8,
+) -> u64
+    ensures { λ r. ⌜ r ≡ sourceBy t executed u accessed (now (registers .entry)) q ⌝ }
+{
+    if 15 <= q {
+        return 0; // matches nothing
+    }
+    if t.result == q {
+        return result_m(executed);
+    }
+    if u.loaded == q {
+        return word_w(accessed);
+    }
+    if u.result == q {
+        return result_w(accessed);
+    }
+    let k = q as usize;
+    registers[k]
+}
+
+// t and u are the targets of what stood in E and in M.
+pub fn decode_d(
+    d: StageD,
+    s: Sources,
+    t: Targets,
+    executed: StageM,
+    u: Targets,
+    accessed: StageW,
+    registers: &[u64; 15],
+) -> StageE
+    ensures { λ r. ⌜ r ≡ decodedBy s t executed u accessed (now (registers .entry)) d ⌝ }
 {
     match d {
         StageD::BubbleD => StageE::BubbleE,
         StageD::InD(i) => {
-            let a = source(e, m, w, registers, source_a(i));
-            let b = source(e, m, w, registers, source_b(i));
+            let a = source(t, executed, u, accessed, registers, s.a);
+            let b = source(t, executed, u, accessed, registers, s.b);
             StageE::InE(Decoded {
                 instruction: i,
                 a,

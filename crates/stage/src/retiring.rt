@@ -1,4 +1,5 @@
 // Retirement: the counts, the last address, the charges by kind, and the instruction kept for its follower's charge.
+use crate::controls::afresh;
 use crate::signals::meets_either;
 use crate::signals::mispredicted;
 use isa::decoding::is_bad;
@@ -79,6 +80,21 @@ fn count(kinds: Kinds, charge: u8) -> Kinds
     }
 }
 
+fn still_kept(kept: Kept) -> Kept
+    ensures { λ r. ⌜ r ≡ kept ⌝ }
+{
+    match kept {
+        Kept::NoneKept => Kept::NoneKept,
+        Kept::LastKept(k) => {
+            let i = k.instruction;
+            Kept::LastKept(Retired {
+                instruction: afresh(i),
+                holds: k.holds,
+            })
+        }
+    }
+}
+
 // What is kept is retired with AOK: a stop leaves it as it was.
 fn kept_by(x: Accessed, kept: Kept) -> Kept
     ensures { λ r. ⌜ r ≡ keptBy x kept ⌝ }
@@ -86,10 +102,10 @@ fn kept_by(x: Accessed, kept: Kept) -> Kept
     let i = x.instruction;
     let status = x.status;
     if is_bad(status) {
-        return kept;
+        return still_kept(kept);
     }
     Kept::LastKept(Retired {
-        instruction: i,
+        instruction: afresh(i),
         holds: x.holds,
     })
 }

@@ -1,8 +1,5 @@
 // The signals that the controls go by.
 use isa::decoding::is_bad;
-use isa::decoding::loaded_target;
-use isa::decoding::source_a;
-use isa::decoding::source_b;
 use machine::Instruction;
 use machine::StageD;
 use machine::StageE;
@@ -11,7 +8,7 @@ use machine::StageW;
 ghost use mathlib.Core.Path.{_≡_};
 ghost use mathlib.Core.Bool.{_||_};
 ghost use Rattle.machine.specs.Prediction.{asIn01, meets as meetsOf, mispredicted as mispredictedOf};
-ghost use Rattle.machine.specs.Pipeline.{waitsBehind, wrong as wrongOf, retInD, retInE, retInM, badInW};
+ghost use Rattle.machine.specs.Pipeline.{wrong as wrongOf, retInD, retInE, retInM, badInW};
 
 // Register 15 as a source matches nothing.
 pub fn meets(target: u8, source: u8) -> bool
@@ -20,27 +17,11 @@ pub fn meets(target: u8, source: u8) -> bool
     (source < 15) & (target == source)
 }
 
-// A loaded register is among the sources a and b of another instruction.
+// Load-use: a loaded register is among the sources a and b of another instruction.
 pub fn meets_either(loaded: u8, a: u8, b: u8) -> bool
     ensures { λ r. ⌜ r ≡ (meetsOf loaded a || meetsOf loaded b) ⌝ }
 {
     meets(loaded, a) | meets(loaded, b)
-}
-
-// Load-use: D waits behind E.
-pub fn waits_behind(e: StageE, d: StageD) -> bool
-    ensures { λ r. ⌜ r ≡ waitsBehind asIn01 e d ⌝ }
-{
-    match e {
-        StageE::BubbleE => false,
-        StageE::InE(x) => match d {
-            StageD::BubbleD => false,
-            StageD::InD(j) => {
-                let i = x.instruction;
-                meets_either(loaded_target(i), source_a(j), source_b(j))
-            }
-        },
-    }
 }
 
 // Every jump is guessed taken, so a false condition is a misprediction.

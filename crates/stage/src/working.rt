@@ -1,7 +1,10 @@
 // The work of E, M and W in a clock.
+use crate::forwarding::Targets;
+use crate::forwarding::result_w;
+use crate::forwarding::word_w;
 use isa::accessing::access;
 use isa::accessing::update;
-use isa::decoding::write_back;
+use isa::decoding::write;
 use isa::executing::execute;
 use isa::executing::new_codes;
 use machine::Codes;
@@ -9,7 +12,8 @@ use machine::StageE;
 use machine::StageM;
 use machine::StageW;
 ghost use mathlib.Core.Path.{_≡_};
-ghost use Rattle.machine.specs.Pipeline.{afterE, afterM, codesAfter, memoryAfter, registersAfter};
+ghost use Rattle.machine.specs.Pipeline.{afterE, afterM, codesAfter, memoryAfter};
+ghost use Rattle.stage.specs.Forwarding.{writtenBy};
 
 // E's instruction after execution, on the codes as the clock began.
 pub fn after_e(e: StageE, codes: Codes) -> StageM
@@ -50,11 +54,10 @@ pub fn memory_after(m: StageM, memory: &mut [u8])
     }
 }
 
-pub fn registers_after(w: StageW, registers: &mut [u64; 15])
-    ensures { λ _. ⌜ now (registers .exit) ≡ registersAfter w (now (registers .entry)) ⌝ }
+// W's write, to the targets that it carries: the result, and then the loaded word.
+pub fn registers_after(targets: Targets, w: StageW, registers: &mut [u64; 15])
+    ensures { λ _. ⌜ now (registers .exit) ≡ writtenBy targets w (now (registers .entry)) ⌝ }
 {
-    match w {
-        StageW::BubbleW => {}
-        StageW::InW(x) => write_back(x, registers),
-    }
+    write(registers, targets.result, result_w(w));
+    write(registers, targets.loaded, word_w(w));
 }

@@ -9,14 +9,8 @@ enum-told c = search needs
 enum-known-d : tie.Need-enum-known-d
 enum-known-d c = search needs
 
-source-a-requires : tie.Need-source-a-requires
-source-a-requires c κs = search needs
-
 source-requires : tie.Need-source-requires
 source-requires c κs = search needs
-
-source-b-requires : tie.Need-source-b-requires
-source-b-requires c κs = search needs
 
 source-requires-2 : tie.Need-source-requires-2
 source-requires-2 c κs = search needs
@@ -29,13 +23,4 @@ returns-2 c = search (needs, decodes)
 
 pub decode-d-spec : {M : Type 1} → statement M
 decode-d-spec =
-    tie.close
-    (tie.spec
-    enum-told
-    enum-known-d
-    source-a-requires
-    source-requires
-    source-b-requires
-    source-requires-2
-    returns
-    returns-2)
+    tie.close (tie.spec enum-told enum-known-d source-requires source-requires-2 returns returns-2)
