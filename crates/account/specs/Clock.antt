@@ -7,6 +7,7 @@ use native.Mathlib.Omega.{arith}
 use native.Mathlib.Decide.{decLt}
 use lib.ListN.{length}
 use Rattle.account.specs.Names.{StageD, bubbleD, inD, StageE, bubbleE, inE, bubbleM, inM, bubbleW, inW}
+use Rattle.registers.specs.File.{value-after}
 use Rattle.machine.specs.Memory.{value}
 use Rattle.machine.specs.Table.{is, ret}
 use Rattle.machine.specs.Fetch.{fetch}
@@ -199,7 +200,7 @@ module _ (g : Settings) (s : Plain) (K : ℕ) (p : Piped) (c : ℕ)
         → pastBoth (inW (accessed (steps s n))) q x ≡ value (steps s (suc n) .machine .registers) q
     unfolding steps
     read-on n l r q x e =
-        cc (Laws.value-after (accessed (steps s n)) (steps s n .machine .registers) (len n) q, Laws.step-registers (steps s n) (l .runs) r)
+        cc (value-after (accessed (steps s n)) (steps s n .machine .registers) (len n) q, Laws.step-registers (steps s n) (l .runs) r)
 
     module _ (n : ℕ) (v : Executing n) (l : Known g s K n) (k : p .pipeline .codes ≡ steps s n .machine .codes) (h : p .pipeline .e ≡ inE (decoded (steps s n)))
         (t : due g s (suc n) ≡ c + 3) where

@@ -9,6 +9,7 @@ use lib.Dec.{ltb, eqb}
 use lib.ListN.{length, set, length-set}
 use lib.Seq.{getD-set-same, getD-set-other}
 use Rattle.account.specs.Names.{Status, aok, hlt, adr, ins, Codes, Instruction, Decoded, Accessed, Retired, inM, inW}
+use Rattle.registers.specs.File.{meets-none, length-written}
 use Rattle.machine.specs.Types.{isBad}
 use Rattle.machine.specs.Memory.{Registers, inside, store, value, written}
 use Rattle.machine.specs.Table.{rowOf, table, is, operation, cmov, jump, ret}
@@ -130,15 +131,6 @@ kind i = go (is jump i) (is ret i) refl refl
     go false true p q = let k = eqb-true (i .code) 9 q in returns p q (rw k)
     go false false p q = others p q
 
-meets-none : (q : ℕ) → meets 15 q ≡ false
-unfolding meets
-meets-none q = go (ltb q 15) (eqb 15 q) refl refl
-  where
-    go : (a b : Bool) → ltb q 15 ≡ a → eqb 15 q ≡ b → ltb q 15 && eqb 15 q ≡ false
-    go false b e f = cc
-    go true false e f = cc
-    go true true e f = absurd (omega (arith, ltb-true q 15 e, eqb-true 15 q f))
-
 loadUse-none : (g : Settings) (i j : Instruction) → loadedTarget i ≡ 15 → loadUse g i j ≡ false
 unfolding loadUse
 loadUse-none g i j e = cc (meets-none (sourceA j), meets-none (sourceB j))
@@ -258,32 +250,6 @@ stopped-before s h = go (isStopped s) refl
     go false e = e
 
 -- REGISTERS
-value-written : (r : Registers) (t v q : ℕ) → length r ≡ 15 → value (written r t v) q ≡ cond (meets t q) v (value r q)
-unfolding value written meets
-value-written r t v q l = go (ltb q 15) (ltb t 15) (eqb t q) refl refl refl
-  where
-    go : (a b c : Bool) → ltb q 15 ≡ a → ltb t 15 ≡ b → eqb t q ≡ c → value (written r t v) q ≡ cond (meets t q) v (value r q)
-    go false b c e f g = cc
-    go true false false e f g = cc
-    go true false true e f g = cc (eqb-true t q g)
-    go true true false e f g = cc (getD-set-other r t q v 0 (λ x. eqb-false t q g (sym x)))
-    go true true true e f g = cc (getD-set-same r t v 0 (omega (arith, ltb-true t 15 f)), eqb-true t q g)
-
-length-written : (r : Registers) (t v : ℕ) → length (written r t v) ≡ length r
-unfolding written
-length-written r t v = go (ltb t 15)
-  where
-    go : (b : Bool) → length (cond b (set r t v) r) ≡ length r
-    go true = length-set r t v
-    go false = refl
-
--- a register after an instruction is what lies behind it, forwarded past its word and its result
-pub value-after : (w : Accessed) (r : Registers) → length r ≡ 15 → (q : ℕ) → value (newRegisters w r) q ≡ pastBoth (inW w) q (value r q)
-unfolding newRegisters pastBoth
-value-after w r l q =
-    value-written (written r (resultTarget (w .instruction) (w .holds)) (w .result)) (loadedTarget (w .instruction)) (w .word) q (length-written _ _ _ ∙ l)
-    ∙ ap (λ x. cond (meets (loadedTarget (w .instruction)) q) (w .word) x) (value-written r (resultTarget (w .instruction) (w .holds)) (w .result) q l)
-
 length-step : (s : Plain) → length (step s .machine .registers) ≡ length (s .machine .registers)
 unfolding step performed stoppedBy newRegisters
 length-step s = go (isStopped s) (isBad (accessed s .status))

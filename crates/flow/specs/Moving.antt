@@ -5,17 +5,35 @@ use Rattle.machine.specs.declared.Instruction.{Instruction}
 use Rattle.machine.specs.declared.StageD.{StageD}
 use Rattle.machine.specs.declared.StageD.the-variants.{BubbleD as bubbleD, InD as inD}
 use Rattle.machine.specs.declared.StageE.{StageE}
-use Rattle.machine.specs.declared.StageE.the-variants.{BubbleE as bubbleE}
+use Rattle.machine.specs.declared.StageE.the-variants.{BubbleE as bubbleE, InE as inE}
 use Rattle.machine.specs.declared.StageM.{StageM}
 use Rattle.machine.specs.declared.StageM.the-variants.{BubbleM as bubbleM}
 use Rattle.machine.specs.declared.StageW.{StageW}
-use Rattle.machine.specs.Memory.{Memory, Registers}
+use Rattle.machine.specs.Memory.{Memory, Registers, value}
 use Rattle.machine.specs.Fetch.{fetch}
-use Rattle.machine.specs.Prediction.{asIn01, predictedNext}
-use Rattle.machine.specs.Pipeline.{afterE, afterM, codesAfter, waitsBehind, wrong, retInD, retInE, retInM, badInW, returnedTo, mended}
-use Rattle.stage.specs.Forwarding.{pastE, pastW, decodedBy}
+use Rattle.machine.specs.Stages.{decode}
+use Rattle.machine.specs.Prediction.{asIn01, predictedNext, meets}
+use Rattle.machine.specs.Pipeline.{afterE, afterM, codesAfter, pastResult, pastBoth, waitsBehind, wrong, retInD, retInE, retInM, badInW, returnedTo, mended}
+use Rattle.stage.specs.declared.forwarding.Targets.{Targets}
+use Rattle.stage.specs.declared.forwarding.Sources.{Sources}
+use Rattle.stage.specs.Forwarding.{targetsM, targetsW}
 use Rattle.flow.specs.declared.Flow.{Flow}
+use Rattle.flow.specs.declared.Ahead.{Ahead}
 use Rattle.flow.specs.declared.Signals.{Signals}
+
+-- the targets of what stands in M and in W
+unfoldable pub aheadOf : StageM → StageW → Ahead
+aheadOf m w = record { m = targetsM m; w = targetsW w }
+
+-- what the code tests, s and t being D's sources and the targets of what stood in E
+unfoldable pub signalsBy : Sources → Targets → StageD → StageE → StageM → StageM → StageW → Signals
+signalsBy s t d e m x y =
+    record {
+      waits = meets (t .loaded) (s .a) || meets (t .loaded) (s .b);
+      mispredicts = wrong asIn01 x;
+      returns = retInD d || (retInE e || retInM m);
+      fails = badInW y;
+    }
 
 unfoldable pub signalsOf : StageD → StageE → StageM → StageM → StageW → Signals
 signalsOf d e m x y =
@@ -29,18 +47,24 @@ signalsOf d e m x y =
 unfoldable pub fetchedIn : StageM → StageW → ℕ → Memory → Instruction
 fetchedIn m w f bytes = fetch bytes (mended asIn01 m (returnedTo w f))
 
+unfoldable pub sourceIn : StageM → StageW → StageW → Registers → ℕ → ℕ
+sourceIn x y w r q = pastResult x q (pastBoth y q (pastBoth w q (value r q)))
+
 unfoldable pub decodedIn : StageD → StageM → StageW → StageW → Registers → StageE
-decodedIn d x y w r = decodedBy (pastE x) (pastW y) (pastW w) r d
+decodedIn bubbleD x y w r = bubbleE
+decodedIn (inD i) x y w r = inE (decode i (sourceIn x y w r))
 
 unfoldable pub shiftedOf : Flow → Signals → StageM → StageW → Instruction → StageE → Flow
 shiftedOf f s x y i z =
+    let m = cond (s .fails) bubbleM x in
     record {
       predicted = cond (s .waits || s .returns) (f .predicted) (predictedNext asIn01 i);
       d = cond (s .mispredicts) bubbleD (cond (s .waits) (f .d) (cond (s .returns) bubbleD (inD i)));
       e = cond (s .mispredicts || s .waits) bubbleE z;
-      m = cond (s .fails) bubbleM x;
+      m = m;
       w = y;
       codes = cond (s .fails) (f .codes) (codesAfter (f .e) (f .codes));
+      targets = aheadOf m y;
     }
 
 unfoldable pub flowAfter : Flow → Registers → Memory → Flow

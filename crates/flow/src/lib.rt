@@ -27,10 +27,12 @@ use stage::working::after_m;
 use stage::working::memory_after;
 use stage::working::registers_after;
 ghost use mathlib.Core.Path.{_≡_};
+ghost use lib.ListN.{length};
 ghost use Rattle.machine.specs.Pipeline.{memoryAfter, registersAfter};
-ghost use Rattle.flow.specs.Moving.{signalsOf, fetchedIn, decodedIn, flowAfter};
+ghost use Rattle.stage.specs.Forwarding.{sourcesD, targetsM, targetsW};
+ghost use Rattle.flow.specs.Moving.{aheadOf, signalsBy, fetchedIn, decodedIn, flowAfter};
 
-// F to W with the codes: what a clock works on, without registers and counts. The targets of M and W are carried beside them.
+// F to W with the codes: what a clock works on, without registers and counts. Targets are worked out in E and carried beside M and W.
 pub struct Flow {
     pub predicted: u64,
     pub d: StageD,
@@ -38,8 +40,13 @@ pub struct Flow {
     pub m: StageM,
     pub w: StageW,
     pub codes: Codes,
-    pub targets_m: Targets,
-    pub targets_w: Targets,
+    pub targets: Ahead,
+}
+
+// The targets of what stands in M and in W.
+pub struct Ahead {
+    pub m: Targets,
+    pub w: Targets,
 }
 
 // What the controls go by.
@@ -59,7 +66,7 @@ fn signals_now(
     executed: StageM,
     accessed: StageW,
 ) -> Signals
-    ensures { λ r. ⌜ r ≡ signalsOf sources targets d e m executed accessed ⌝ }
+    ensures { λ r. ⌜ r ≡ signalsBy sources targets d e m executed accessed ⌝ }
 {
     Signals {
         waits: meets_either(targets.loaded, sources.a, sources.b),
@@ -75,9 +82,29 @@ fn fetch_now(m: StageM, w: StageW, predicted: u64, memory: &[u8]) -> Instruction
     fetch(memory, fetch_address(m, w, predicted))
 }
 
-// A clock in which no bad status stands in W, which writes its registers before decode reads them.
+// W writes its registers before decode reads them, so that nothing of W's has to be forwarded.
+fn write_and_decode(
+    d: StageD,
+    sources: Sources,
+    targets: Targets,
+    executed: StageM,
+    accessed: StageW,
+    w: StageW,
+    ahead: Ahead,
+    registers: &mut [u64; 15],
+) -> StageE
+    requires { ⌜ (length (now registers) ≡ 15) × (sources ≡ sourcesD d) × (targets ≡ targetsM executed) × (ahead .m ≡ targetsW accessed) × (ahead .w ≡ targetsW w) ⌝ }
+    ensures { λ r. ⌜ (r ≡ decodedIn d executed accessed w (now (registers .entry))) × (now (registers .exit) ≡ registersAfter w (now (registers .entry))) ⌝ }
+{
+    let in_m = ahead.m;
+    let in_w = ahead.w;
+    registers_after(in_w, w, registers);
+    decode_d(d, sources, targets, executed, in_m, accessed, registers)
+}
+
+// A clock in which no bad status stands in W.
 pub fn advance(flow: Flow, registers: &mut [u64; 15], memory: &mut [u8]) -> Flow
-    requires { ⌜ Carried flow ⌝ }
+    requires { ⌜ (length (now registers) ≡ 15) × (flow .targets ≡ aheadOf (flow .m) (flow .w)) ⌝ }
     ensures { λ r. ⌜ (r ≡ flowAfter flow (now (registers .entry)) (now (memory .entry))) × (now (registers .exit) ≡ registersAfter (flow .w) (now (registers .entry))) × (now (memory .exit) ≡ memoryAfter (flow .m) (now (memory .entry))) ⌝ }
 {
     let d = flow.d;
@@ -85,25 +112,20 @@ pub fn advance(flow: Flow, registers: &mut [u64; 15], memory: &mut [u8]) -> Flow
     let m = flow.m;
     let w = flow.w;
     let codes = flow.codes;
-    let carried_m = flow.targets_m;
-    let carried_w = flow.targets_w;
+    let ahead = flow.targets;
+    let in_m = ahead.m;
     let executed = after_e(e, codes);
     let accessed = after_m(m, memory);
     let fetched = fetch_now(m, w, flow.predicted, memory);
-    registers_after(carried_w, w, registers);
     let targets = targets_m(executed);
     let sources = sources_d(d);
-    let decoded = decode_d(
-        d,
-        sources,
-        targets,
-        executed,
-        carried_m,
-        accessed,
-        registers,
-    );
+    let decoded = write_and_decode(d, sources, targets, executed, accessed, w, ahead, registers);
     memory_after(m, memory);
     let s = signals_now(sources, targets, d, e, m, executed, accessed);
+    let carried = Ahead {
+        m: next_targets(s.fails, targets),
+        w: in_m,
+    };
     Flow {
         predicted: next_f(s.waits | s.returns, flow.predicted, fetched),
         d: next_d(s.mispredicts, s.waits, s.returns, d, fetched),
@@ -111,7 +133,6 @@ pub fn advance(flow: Flow, registers: &mut [u64; 15], memory: &mut [u8]) -> Flow
         m: next_m(s.fails, executed),
         w: accessed,
         codes: next_codes(s.fails, e, codes),
-        targets_m: next_targets(s.fails, targets),
-        targets_w: carried_m,
+        targets: carried,
     }
 }

@@ -1,4 +1,4 @@
-use Rattle.flow.proofs.Ways.{flow-is}
+use Rattle.flow.proofs.Ways.{carried-on, flow-is}
 use borrow.Author.Needs.{needs}
 use Rattle.flow.proofs.advance.Statement.{statement}
 use Rattle.flow.proofs.advance.Tie as tie
@@ -12,17 +12,28 @@ after-m-requires c κs = search needs
 fetch-now-requires : tie.Need-fetch-now-requires
 fetch-now-requires c κs = search needs
 
-decode-now-requires : tie.Need-decode-now-requires
-decode-now-requires c κs = search needs
+targets-m-requires : tie.Need-targets-m-requires
+targets-m-requires c κs = search needs
+
+sources-d-requires : tie.Need-sources-d-requires
+sources-d-requires c κs = search needs
+
+write-and-decode-requires : tie.Need-write-and-decode-requires
+write-and-decode-requires c κs =
+    let sources = c .before in
+    let access = sources .before .before .before .before in
+    let start = access .before .before .before .before .before .before .before in
+    let ahead = carried-on _ _ _ _ _ (start .pre .1) (access .after-m .ensures) in
+    (start .pre .0, sources .sources-d .ensures, sources .before .targets-m .ensures, ahead .0, ahead .1)
 
 memory-after-requires : tie.Need-memory-after-requires
 memory-after-requires c κs = search needs
 
-registers-after-requires : tie.Need-registers-after-requires
-registers-after-requires c κs = search needs
-
 signals-now-requires : tie.Need-signals-now-requires
 signals-now-requires c κs = search needs
+
+next-targets-requires : tie.Need-next-targets-requires
+next-targets-requires c κs = search needs
 
 next-f-requires : tie.Need-next-f-requires
 next-f-requires c κs = search needs
@@ -45,15 +56,18 @@ same-length c = search needs
 returns : tie.Need-returns
 returns c =
     let controls = c .before .before .before .before in
-    let signals = controls .before .before .before in
-    let back = signals .before in
-    let write = back .before .before .before .before in
+    let signals = controls .before .before .before .before in
+    let write = signals .before .before .before in
     let decode = write .before .before in
-    let fetch = decode .before .before in
-    let access = fetch .before .before in (
-      flow-is _ _ _ _ _ _ _ _ (access .before .before .after-e .ensures) (access .after-m .ensures) (fetch .fetch-now .ensures) (decode .decode-now .ensures) (signals .signals-now .ensures)
-          _ _ _ _ _ (controls .before .next-f .ensures) (controls .next-d .ensures) (c .before .before .next-e .ensures) (c .before .next-m .ensures) (c .next-codes .ensures),
-      back .registers-after .ensures,
+    let sources = decode .before .before in
+    let fetch = sources .before .before in
+    let access = fetch .before .before in
+    let first = access .before .before in
+    let start = first .before .before .before .before .before in (
+      flow-is _ (start .pre .1) _ _ _ _ _ _ _ _ _ (first .after-e .ensures) (access .after-m .ensures) (fetch .fetch-now .ensures) (sources .before .targets-m .ensures)
+          (sources .sources-d .ensures) (decode .write-and-decode .ensures .0) (signals .signals-now .ensures) _ _ _ _ _ _ (controls .before .next-f .ensures) (controls .next-d .ensures)
+          (c .before .before .next-e .ensures) (c .before .next-m .ensures) (c .next-codes .ensures) (controls .before .before .before .next-targets .ensures),
+      decode .write-and-decode .ensures .1,
       write .memory-after .ensures,
     )
 
@@ -64,10 +78,12 @@ advance-spec =
     after-e-requires
     after-m-requires
     fetch-now-requires
-    decode-now-requires
+    targets-m-requires
+    sources-d-requires
+    write-and-decode-requires
     memory-after-requires
-    registers-after-requires
     signals-now-requires
+    next-targets-requires
     next-f-requires
     next-d-requires
     next-e-requires

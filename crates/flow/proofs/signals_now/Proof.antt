@@ -3,8 +3,8 @@ use borrow.Author.Needs.{needs}
 use Rattle.flow.proofs.signals_now.Statement.{statement}
 use Rattle.flow.proofs.signals_now.Tie as tie
 
-waits-behind-requires : tie.Need-waits-behind-requires
-waits-behind-requires c κs = search needs
+meets-either-requires : tie.Need-meets-either-requires
+meets-either-requires c κs = search needs
 
 wrong-requires : tie.Need-wrong-requires
 wrong-requires c κs = search needs
@@ -22,7 +22,7 @@ pub signals-now-spec : {M : Type 1} → statement M
 signals-now-spec =
     tie.close
     (tie.spec
-    waits-behind-requires
+    meets-either-requires
     wrong-requires
     ret-on-the-way-requires
     bad-in-w-requires
