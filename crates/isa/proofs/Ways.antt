@@ -22,7 +22,7 @@ use Rattle.machine.specs.Types.{isBad}
 use Rattle.machine.specs.Words.{sum, difference, signed, outside}
 use Rattle.machine.specs.Memory.{Memory, Registers, inside, load, store, written}
 use Rattle.machine.specs.Table.{rowOf, is}
-use Rattle.machine.specs.Stages.{sourceA, sourceB, resultTarget, loadedTarget, newRegisters, operated, overflows, operatedCodes, newCodes, condition, result, outcome, execute, loads, stores, accessAddress, storedWord, accessStatus, access, newMemory, turned, straight, nextAddress}
+use Rattle.machine.specs.Stages.{sourceA, sourceB, resultTarget, loadedTarget, operated, overflows, operatedCodes, newCodes, condition, result, outcome, execute, loads, stores, accessAddress, storedWord, accessStatus, access, newMemory, turned, straight, nextAddress}
 use Rattle.isa.specs.Numbers.{whichNumber, computesNumber, accessKind, registerBy, computedBy}
 use Rattle.isa.proofs.Entries.{register-by, computed-by, loads-by, stores-by, accesses-by, addressed-by, stored-by}
 
@@ -57,11 +57,6 @@ targeted i h k r t q p = cc (register-by (rowOf (i .code) .target) i)
 pub into : (i : Instruction) (k r : ℕ) → k ≡ whichNumber (rowOf (i .code) .loaded) → r ≡ registerBy k i → r ≡ loadedTarget i
 unfolding loadedTarget
 into i k r q p = cc (register-by (rowOf (i .code) .loaded) i)
-
-pub wrote : (w : Accessed) (r r₁ r₂ : Registers) (t u : ℕ) → t ≡ resultTarget (w .instruction) (w .holds) → r₁ ≡ written r t (w .result)
-    → u ≡ loadedTarget (w .instruction) → r₂ ≡ written r₁ u (w .word) → r₂ ≡ newRegisters w r
-unfolding newRegisters
-wrote w r r₁ r₂ t u e p f q = cc
 
 -- EXECUTE
 -- a function number past the last of its list

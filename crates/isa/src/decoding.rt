@@ -3,13 +3,12 @@ use crate::rows::a_from;
 use crate::rows::b_from;
 use crate::rows::loaded_of;
 use crate::rows::target_of;
-use machine::Accessed;
 use machine::Instruction;
 use machine::Status;
 ghost use mathlib.Core.Path.{_≡_};
 ghost use Rattle.machine.specs.Types.{isBad};
 ghost use Rattle.machine.specs.Memory.{value as valueOf, written as writtenOf};
-ghost use Rattle.machine.specs.Stages.{sourceA, sourceB, resultTarget, loadedTarget, newRegisters};
+ghost use Rattle.machine.specs.Stages.{sourceA, sourceB, resultTarget, loadedTarget};
 ghost use Rattle.isa.specs.Numbers.{registerBy};
 
 pub fn is_bad(status: Status) -> bool
@@ -97,13 +96,4 @@ pub fn write(registers: &mut [u64; 15], q: u8, v: u64)
         let k = q as usize;
         registers[k] = v;
     }
-}
-
-// Write back: the result, and then the loaded word.
-pub fn write_back(w: Accessed, registers: &mut [u64; 15])
-    ensures { λ _. ⌜ now (registers .exit) ≡ newRegisters w (now (registers .entry)) ⌝ }
-{
-    let i = w.instruction;
-    write(registers, result_target(i, w.holds), w.result);
-    write(registers, loaded_target(i), w.word);
 }
