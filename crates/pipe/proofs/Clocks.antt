@@ -1,8 +1,8 @@
 -- One clock on the record taken apart is a clock of the definitions. Assumes nothing.
-use mathlib.Core.Path.{_≡_, refl, sym}
-use mathlib.Core.Bool.{Bool, true, false, cond}
+use mathlib.Core.Path.{_≡_, refl, _∙_}
+use mathlib.Core.Bool.{true, false}
 use mathlib.Core.List.{List, _++_}
-use Prim.Native.Nat.{ℕ, _+_}
+use Prim.Native.Nat.{ℕ}
 use Rattle.machine.specs.declared.Pipeline.{Pipeline}
 use Rattle.machine.specs.declared.Status.{Status}
 use Rattle.machine.specs.declared.Status.the-variants.{Aok as aok, Hlt as hlt, Adr as adr, Ins as ins}
@@ -14,44 +14,14 @@ use Rattle.machine.specs.Prediction.{asIn01}
 use Rattle.machine.specs.Pipeline.{Piped, badInW, memoryAfter, registersAfter, lastAfter, retiredAfter, kindsAfter, logged, advanced, stoppedIn, clockBy, clock, waits, mispredicts, returns, fails, fetchAddress, fetchedNow, nextF, nextD, nextE, nextM, nextCodes}
 use Rattle.stage.specs.Retiring.{statusAfter, tallyAfter}
 use Rattle.stage.proofs.Sources.{decoded-is}
-use Rattle.pipe.specs.declared.running.Running.{Running}
+use Rattle.stage.specs.declared.retiring.Tally.{Tally}
+use Rattle.flow.specs.declared.Flow.{Flow}
 use Rattle.flow.specs.Moving.{signalsOf, fetchedIn, decodedIn, shiftedOf, flowAfter}
-use Rattle.pipe.specs.Parts.{whole, Ticked}
+use Rattle.pipe.specs.Parts.{whole}
 
 -- the record, its memory and its logs
 abbrev pub piped : Pipeline → Memory → List ℕ → List ℕ → Piped
 piped k m es ys = record { pipeline = k; memory = m; addresses = es; cycles = ys }
-
--- the clock in which w stops the machine, for any w
-stoppedAt : Piped → StageW → Piped
-stoppedAt p w =
-    let k = p .pipeline in
-    record {
-      pipeline =
-          record {
-            predicted = k .predicted;
-            d = k .d;
-            e = k .e;
-            m = k .m;
-            w = k .w;
-            registers = k .registers;
-            codes = k .codes;
-            status = statusAfter w;
-            last = lastAfter w (k .last);
-            retired = retiredAfter w (k .retired);
-            cycles = k .cycles + 1;
-            kinds = kindsAfter asIn01 w (k .kept) (k .kinds);
-            kept = k .kept;
-          };
-      memory = p .memory;
-      addresses = p .addresses ++ logged w (lastAfter w (k .last));
-      cycles = p .cycles ++ logged w (k .cycles + 1);
-    }
-
-by-w : (p : Piped) (w : StageW) → clockBy asIn01 p w ≡ cond (badInW w) (stoppedAt p w) (advanced asIn01 p)
-unfolding clockBy badInW stoppedAt stoppedIn statusAfter lastAfter retiredAfter kindsAfter logged
-by-w p bubbleW = refl
-by-w p (inW w) = refl
 
 good-status : (s : Status) → isBad s ≡ false → s ≡ aok
 unfolding isBad
@@ -60,34 +30,35 @@ good-status hlt h = cc
 good-status adr h = cc
 good-status ins h = cc
 
-good-in-w : (w : StageW) → badInW w ≡ false → aok ≡ statusAfter w
-unfolding badInW statusAfter
-good-in-w bubbleW h = refl
-good-in-w (inW w) h = sym (good-status (w .status) h)
+pub bad-after : (w : StageW) → isBad (statusAfter w) ≡ badInW w
+unfolding badInW statusAfter isBad
+bad-after bubbleW = refl
+bad-after (inW w) = refl
 
-module _ (s : Running) (r : Registers) (m : Memory) (es ys : List ℕ) where
-  stops : badInW (s .flow .w) ≡ true
-      → stoppedAt (piped (whole s r) m es ys) (s .flow .w)
-      ≡ piped (whole (record { flow = s .flow; tally = tallyAfter (s .tally) (s .flow .w); status = statusAfter (s .flow .w) }) r) m
-      (es ++ logged (s .flow .w) (tallyAfter (s .tally) (s .flow .w) .last)) (ys ++ logged (s .flow .w) (tallyAfter (s .tally) (s .flow .w) .cycles))
-  unfolding stoppedAt whole tallyAfter
-  stops h = rw h
+-- the state after a clock with w in W, whose stages, registers and memory become f, r and m
+abbrev pub after : Tally → List ℕ → List ℕ → StageW → Flow → Registers → Memory → Piped
+after t es ys w f r m =
+    let t′ = tallyAfter t w in
+    piped (whole f t′ (statusAfter w) r) m (es ++ logged w (t′ .last)) (ys ++ logged w (t′ .cycles))
 
-  goes : badInW (s .flow .w) ≡ false
-      → advanced asIn01 (piped (whole s r) m es ys)
-      ≡ piped (whole (record { flow = flowAfter (s .flow) r m; tally = tallyAfter (s .tally) (s .flow .w); status = statusAfter (s .flow .w) }) (registersAfter (s .flow .w) r)) (memoryAfter (s .flow .m) m)
-      (es ++ logged (s .flow .w) (tallyAfter (s .tally) (s .flow .w) .last)) (ys ++ logged (s .flow .w) (tallyAfter (s .tally) (s .flow .w) .cycles))
-  unfolding advanced whole tallyAfter flowAfter shiftedOf signalsOf fetchedIn decodedIn waits mispredicts returns fails fetchAddress fetchedNow nextF nextD nextE nextM nextCodes
-  goes h = rw (h, ← good-in-w (s .flow .w) h, decoded-is (piped (whole s r) m es ys) (s .flow .d))
+module _ (f : Flow) (t : Tally) (x : Status) (r : Registers) (m : Memory) (es ys : List ℕ) where
+  abbrev now : Piped
+  now = piped (whole f t x r) m es ys
 
-  pub clock-is : (place : ℕ) (a y : List ℕ) (s′ : Running) (r′ m′ a′ y′ : List ℕ) → isBad (s .status) ≡ false → Ticked s place r m a y s′ r′ m′ a′ y′
-      → clock asIn01 (piped (whole s r) m es ys)
-      ≡ piped (whole s′ r′) m′ (es ++ logged (s .flow .w) (s′ .tally .last)) (ys ++ logged (s .flow .w) (s′ .tally .cycles))
+  stops-by : (w : StageW) → badInW w ≡ true → clockBy asIn01 now w ≡ after t es ys w f r m
+  unfolding clockBy badInW stoppedIn whole tallyAfter statusAfter lastAfter retiredAfter kindsAfter logged
+  stops-by bubbleW b = cc
+  stops-by (inW w) b = rw b
+
+  goes-by : (w : StageW) → badInW w ≡ false → clockBy asIn01 now w ≡ advanced asIn01 now
+  unfolding clockBy badInW
+  goes-by bubbleW b = refl
+  goes-by (inW w) b = rw b
+
+  pub stops : isBad x ≡ false → badInW (f .w) ≡ true → clock asIn01 now ≡ after t es ys (f .w) f r m
   unfolding clock whole
-  clock-is place a y s′ r′ m′ a′ y′ h t = go (badInW (s .flow .w)) refl
-    where
-      go : (b : Bool) → badInW (s .flow .w) ≡ b
-          → clock asIn01 (piped (whole s r) m es ys)
-          ≡ piped (whole s′ r′) m′ (es ++ logged (s .flow .w) (s′ .tally .last)) (ys ++ logged (s .flow .w) (s′ .tally .cycles))
-      go true e = cc (by-w (piped (whole s r) m es ys) (s .flow .w), stops e)
-      go false e = cc (by-w (piped (whole s r) m es ys) (s .flow .w), goes e)
+  stops h b = rw h (stops-by (f .w) b)
+
+  pub goes : isBad x ≡ false → badInW (f .w) ≡ false → clock asIn01 now ≡ after t es ys (f .w) (flowAfter f r m) (registersAfter (f .w) r) (memoryAfter (f .m) m)
+  unfolding clock advanced whole tallyAfter flowAfter shiftedOf signalsOf fetchedIn decodedIn waits mispredicts returns fails fetchAddress fetchedNow nextF nextD nextE nextM nextCodes
+  goes h b = rw h (goes-by (f .w) b ∙ rw (b, good-status (statusAfter (f .w)) (bad-after (f .w) ∙ b), decoded-is now (f .d)))

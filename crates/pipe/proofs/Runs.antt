@@ -10,22 +10,25 @@ use lib.Dec.{ltb}
 use lib.ListN.{length, length-append}
 use borrow.Author.Tests.{ltb-false}
 use Rattle.answers.specs.Refusals.{or-right}
-use Rattle.answers.specs.Logs.{laid-more}
+use Rattle.answers.specs.Logs.{laid-more, laid-length}
 use Rattle.machine.specs.declared.Pipeline.{Pipeline}
+use Rattle.machine.specs.declared.Status.{Status}
 use Rattle.machine.specs.declared.Kinds.{Kinds}
 use Rattle.machine.specs.declared.Kept.{Kept}
 use Rattle.machine.specs.declared.StageW.{StageW}
 use Rattle.machine.specs.declared.StageW.the-variants.{BubbleW as bubbleW, InW as inW}
 use Rattle.machine.specs.Types.{isBad}
+use Rattle.machine.specs.Memory.{Memory}
 use Rattle.machine.specs.Prediction.{Settings, asIn01}
 use Rattle.machine.specs.Charges.{Reason, free, waited, wronglyGuessed, returned, counted, reasonFrom}
-use Rattle.machine.specs.Pipeline.{Piped, pipedOf, retiredAfter, kindsAfter, logged, clock, clocks}
-use Rattle.machine.specs.Runs.{laid, countsRefused, pipeAnswer, pipeDone}
+use Rattle.machine.specs.Pipeline.{Piped, pipedOf, badInW, memoryAfter, registersAfter, retiredAfter, kindsAfter, logged, clock, clocks}
+use Rattle.machine.specs.Runs.{laid, countsRefused, PipeAnswer, pipeAnswer, pipeDone}
 use Rattle.stage.specs.declared.retiring.Tally.{Tally}
-use Rattle.stage.specs.Retiring.{Small, retires, tallyAfter}
-use Rattle.pipe.specs.declared.running.Running.{Running}
-use Rattle.pipe.specs.Parts.{whole, runningOf, noted, Ticked}
-use Rattle.pipe.proofs.Clocks.{piped, clock-is}
+use Rattle.stage.specs.Retiring.{Small, retires, statusAfter, tallyAfter}
+use Rattle.flow.specs.declared.Flow.{Flow}
+use Rattle.flow.specs.Moving.{flowAfter}
+use Rattle.pipe.specs.Parts.{flowOf, tallyOf, whole, noted}
+use Rattle.pipe.proofs.Clocks.{piped, after, bad-after, stops, goes}
 
 laid-noted : (w : StageW) (es log : List ℕ) (x : ℕ) → noted (retires w) (length es) x (laid es log) ≡ laid (es ++ logged w x) log
 unfolding noted retires logged
@@ -72,45 +75,74 @@ tally-small n t w h =
       returned = three .returned;
     }
 
--- FROM CLOCK TO CLOCK
--- after n clocks of a run from s₀ with registers r₀, memory m₀ and logs a₀ and y₀
-pub record Here (s₀ : Running) (r₀ m₀ a₀ y₀ : List ℕ) (n : ℕ) (s : Running) (r m a y : List ℕ) : Type 0 where
-  pub entries : List ℕ
-  pub times : List ℕ
-  pub state : clocks asIn01 (pipedOf (whole s₀ r₀) m₀) n ≡ piped (whole s r) m entries times
-  pub addresses : a ≡ laid entries a₀
-  pub cycles : y ≡ laid times y₀
-  pub entered : s₀ .tally .retired + length entries ≡ s .tally .retired
-  pub timed : s₀ .tally .retired + length times ≡ s .tally .retired
-  pub small : Small (262146 + n * 3) (s .tally)
+or-left : (a b : Bool) → (a || b) ≡ false → a ≡ false
+or-left true b h = cc
+or-left false b h = refl
 
-pub here-first : (s : Running) (r m a y : List ℕ) → Small 262146 (s .tally) → Here s r m a y 0 s r m a y
-unfolding clocks laid
-here-first s r m a y h =
-    record { entries = []; times = []; state = refl; addresses = refl; cycles = refl; entered = omega arith; timed = omega arith; small = h }
-
-pub here-next : (s₀ : Running) (r₀ m₀ a₀ y₀ : List ℕ) (n : ℕ) (s : Running) (r m a y : List ℕ) (first : ℕ) (b : Bool) (s′ : Running) (r′ m′ a′ y′ : List ℕ)
-    → Here s₀ r₀ m₀ a₀ y₀ n s r m a y → b ≡ isBad (s .status) → b ≡ false → first ≡ s₀ .tally .retired → Ticked s (s .tally .retired - first) r m a y s′ r′ m′ a′ y′
-    → Here s₀ r₀ m₀ a₀ y₀ (n + 1) s′ r′ m′ a′ y′
-unfolding clocks tallyAfter
-here-next s₀ r₀ m₀ a₀ y₀ n s r m a y first b s′ r′ m′ a′ y′ h e f p t =
-    let w = s .flow .w in
-    let place = s .tally .retired - first in
-    let good : isBad (s .status) ≡ false = cc in
-    let at : place ≡ length (h .entries) = omega (arith, h .entered, p) in
-    let at-time : place ≡ length (h .times) = omega (arith, h .timed, p) in
-    let more : 262146 + (n + 1) * 3 ≡ 262146 + n * 3 + 3 = omega arith in
+small-first : (k : Pipeline) → countsRefused k ≡ false → k .cycles ≤ 262145 → Small 262146 (tallyOf k)
+unfolding countsRefused tallyOf
+small-first k h c =
+    let rest = or-right (ltb (k .cycles) (k .retired)) _ h in
+    let rest2 = or-right (ltb (k .cycles) (k .kinds .loaduse)) _ rest in
     record {
-      entries = h .entries ++ logged w (s′ .tally .last);
-      times = h .times ++ logged w (s′ .tally .cycles);
-      state = rw add-one (ap (clock asIn01) (h .state) ∙ clock-is s r m (h .entries) (h .times) place a y s′ r′ m′ a′ y′ good t);
-      addresses = cc (laid-noted w (h .entries) a₀ (s′ .tally .last));
-      cycles = cc (laid-noted w (h .times) y₀ (s′ .tally .cycles));
-      entered = cc (logged-count w (h .entries) (s′ .tally .last) (s₀ .tally .retired) (s .tally .retired) (h .entered));
-      timed = cc (logged-count w (h .times) (s′ .tally .cycles) (s₀ .tally .retired) (s .tally .retired) (h .timed));
-      small = rw (t .tally, more) (tally-small (262146 + n * 3) (s .tally) w (h .small));
+      retired = omega (arith, ltb-false (k .cycles) (k .retired) (or-left _ _ h));
+      cycles = omega arith;
+      loaduse = omega (arith, ltb-false (k .cycles) (k .kinds .loaduse) (or-left _ _ rest));
+      mispredict = omega (arith, ltb-false (k .cycles) (k .kinds .mispredict) (or-left _ _ rest2));
+      returned = omega (arith, ltb-false (k .cycles) (k .kinds .returned) (or-right (ltb (k .cycles) (k .kinds .mispredict)) _ rest2));
     }
 
+pub small-enough : (n : ℕ) (t : Tally) → n < 262145 → Small (262146 + n * 3) t → Small 2000000 t
+small-enough n t h s = record { retired = omega arith; cycles = omega arith; loaduse = omega arith; mispredict = omega arith; returned = omega arith }
+
+-- FROM CLOCK TO CLOCK
+-- after n clocks of a run from p₀ that began with first retirements and the logs a₀ and y₀
+pub record Here (p₀ : Piped) (first : ℕ) (a₀ y₀ : List ℕ) (n : ℕ) (f : Flow) (t : Tally) (x : Status) (r m a y : List ℕ) : Type 0 where
+  pub entries : List ℕ
+  pub times : List ℕ
+  pub state : clocks asIn01 p₀ n ≡ piped (whole f t x r) m entries times
+  pub addresses : a ≡ laid entries a₀
+  pub cycles : y ≡ laid times y₀
+  pub entered : first + length entries ≡ t .retired
+  pub timed : first + length times ≡ t .retired
+  pub small : Small (262146 + n * 3) t
+
+pub here-first : {f : Flow} {t : Tally} {x : Status} {r m a y : List ℕ} (k : Pipeline) → t ≡ tallyOf k → countsRefused k ≡ false → k .cycles ≤ 262145
+    → Here (pipedOf (whole f t x r) m) (k .retired) a y 0 f t x r m a y
+unfolding clocks laid tallyOf
+here-first k e h c =
+    record { entries = []; times = []; state = refl; addresses = refl; cycles = refl; entered = rw e (omega arith); timed = rw e (omega arith); small = rw e (small-first k h c) }
+
+-- one clock more of a machine that has not stopped; b, q and v are what the code found bad, retiring and bad in W
+module _ {p₀ : Piped} {first : ℕ} {a₀ y₀ : List ℕ} {n : ℕ} {f : Flow} {t t′ : Tally} {x x′ : Status} {r m a y a′ y′ : List ℕ} {b q v : Bool}
+    (h : Here p₀ first a₀ y₀ n f t x r m a y) (eb : b ≡ isBad x) (good : b ≡ false) (eq : q ≡ retires (f .w)) (et : t′ ≡ tallyAfter t (f .w)) (ex : x′ ≡ statusAfter (f .w))
+    (ea : a′ ≡ noted q (t .retired - first) (t′ .last) a) (ey : y′ ≡ noted q (t .retired - first) (t′ .cycles) y) (ev : v ≡ badInW (f .w)) where
+  here-after : (f′ : Flow) (r′ m′ : List ℕ) → clock asIn01 (piped (whole f t x r) m (h .entries) (h .times)) ≡ after t (h .entries) (h .times) (f .w) f′ r′ m′
+      → Here p₀ first a₀ y₀ (n + 1) f′ t′ x′ r′ m′ a′ y′
+  unfolding clocks tallyAfter
+  here-after f′ r′ m′ e =
+      let at : t .retired - first ≡ length (h .entries) = omega (arith, h .entered) in
+      let at-time : t .retired - first ≡ length (h .times) = omega (arith, h .timed) in
+      let more : 262146 + (n + 1) * 3 ≡ 262146 + n * 3 + 3 = omega arith in
+      record {
+        entries = h .entries ++ logged (f .w) (t′ .last);
+        times = h .times ++ logged (f .w) (t′ .cycles);
+        state = rw add-one (ap (clock asIn01) (h .state) ∙ (e ∙ rw (et, ex)));
+        addresses = cc (laid-noted (f .w) (h .entries) a₀ (t′ .last));
+        cycles = cc (laid-noted (f .w) (h .times) y₀ (t′ .cycles));
+        entered = cc (logged-count (f .w) (h .entries) (t′ .last) first (t .retired) (h .entered));
+        timed = cc (logged-count (f .w) (h .times) (t′ .cycles) first (t .retired) (h .timed));
+        small = rw (et, more) (tally-small (262146 + n * 3) t (f .w) (h .small));
+      }
+
+  pub here-next : {f′ : Flow} {r′ m′ : List ℕ} → v ≡ false → f′ ≡ flowAfter f r m → r′ ≡ registersAfter (f .w) r → m′ ≡ memoryAfter (f .m) m
+      → Here p₀ first a₀ y₀ (n + 1) f′ t′ x′ r′ m′ a′ y′
+  here-next w ef er em = rw (ef, er, em) (here-after _ _ _ (goes f t x r m (h .entries) (h .times) (cc) (cc)))
+
+  pub here-stopped : v ≡ true → Here p₀ first a₀ y₀ (n + 1) f t′ x′ r m a′ y′ × (isBad x′ ≡ true)
+  here-stopped w = (here-after f r m (stops f t x r m (h .entries) (h .times) (cc) (cc)), cc (bad-after (f .w)))
+
+-- THE END
 -- from a stop on a clock changes nothing
 stopped : (g : Settings) (p : Piped) → isBad (p .pipeline .status) ≡ true → clock g p ≡ p
 unfolding clock
@@ -121,47 +153,28 @@ unfolding clocks
 stays g p n zero h = rw zero-add
 stays g p n (suc k) h = rw (suc-add k n) (ap (clock g) (stays g p n k h) ∙ stopped g (clocks g p n) h)
 
-module _ (k : Pipeline) (s₀ : Running) (r₀ m₀ a₀ y₀ : List ℕ) (n : ℕ) (s : Running) (r m a y : List ℕ) (budget : ℕ) (p : Pipeline)
-    (from : s₀ ≡ runningOf k) (with : r₀ ≡ k .registers) (h : Here s₀ r₀ m₀ a₀ y₀ n s r m a y) (within : n ≤ budget) (to : p ≡ whole s r) where
-  same-start : whole s₀ r₀ ≡ k
-  unfolding whole runningOf
-  same-start = rw (from, with)
+pub same-start : {k : Pipeline} {f : Flow} {t : Tally} {m : Memory} → f ≡ flowOf k → t ≡ tallyOf k → pipedOf (whole f t (k .status) (k .registers)) m ≡ pipedOf k m
+unfolding whole flowOf tallyOf
+same-start ef et = rw (ef, et)
 
-  pub at-budget : budget ≤ n → pipeAnswer 0 p m a y ≡ pipeDone (clocks asIn01 (pipedOf k m₀) budget) a₀ y₀
+-- by each way out of the loop the variables primed are those that it left
+module _ {p₀ : Piped} {k : Pipeline} {m₀ : Memory} {first : ℕ} {a₀ y₀ : List ℕ} {n : ℕ} {f : Flow} {t t′ : Tally} {x x′ : Status} {r m a y a′ y′ : List ℕ} {p : Pipeline} (budget : ℕ)
+    (from : p₀ ≡ pipedOf k m₀) (h : Here p₀ first a₀ y₀ n f t x r m a y) (to : p ≡ whole f t′ x′ r) (ea : a′ ≡ a) (ey : y′ ≡ y) (et : t′ ≡ t) (ex : x′ ≡ x) where
+  pub at-budget : n ≡ budget → pipeAnswer 0 p m a′ y′ ≡ pipeDone (clocks asIn01 (pipedOf k m₀) budget) a₀ y₀
   unfolding pipeDone
-  at-budget l =
-      let e : n ≡ budget = omega arith in
-      cc same-start
+  at-budget e = cc
 
-  pub at-stop : (b : Bool) → b ≡ isBad (s .status) → b ≡ true → pipeAnswer 0 p m a y ≡ pipeDone (clocks asIn01 (pipedOf k m₀) budget) a₀ y₀
+  pub at-stop : n ≤ budget → isBad x ≡ true → pipeAnswer 0 p m a′ y′ ≡ pipeDone (clocks asIn01 (pipedOf k m₀) budget) a₀ y₀
   unfolding pipeDone whole
-  at-stop b eb hb =
-      let bad : isBad (clocks asIn01 (pipedOf (whole s₀ r₀) m₀) n .pipeline .status) ≡ true = rw (h .state, ← eb) hb in
+  at-stop l b =
+      let bad : isBad (clocks asIn01 p₀ n .pipeline .status) ≡ true = rw (h .state) b in
       let e : budget - n + n ≡ budget = omega arith in
-      cc (same-start, stays asIn01 (pipedOf (whole s₀ r₀) m₀) n (budget - n) bad)
+      cc (stays asIn01 p₀ n (budget - n) bad)
 
--- THE START
-or-left : (a b : Bool) → (a || b) ≡ false → a ≡ false
-or-left true b h = cc
-or-left false b h = refl
-
-pub small-first : (p : Pipeline) (s : Running) → s ≡ runningOf p → countsRefused p ≡ false → p .cycles ≤ 262145 → Small 262146 (s .tally)
-unfolding countsRefused runningOf
-small-first p s e h c =
-    rw e
-    (let rest = or-right (ltb (p .cycles) (p .retired)) _ h in
-    let rest2 = or-right (ltb (p .cycles) (p .kinds .loaduse)) _ rest in
-    record {
-      retired = omega (arith, ltb-false (p .cycles) (p .retired) (or-left _ _ h));
-      cycles = omega arith;
-      loaduse = omega (arith, ltb-false (p .cycles) (p .kinds .loaduse) (or-left _ _ rest));
-      mispredict = omega (arith, ltb-false (p .cycles) (p .kinds .mispredict) (or-left _ _ rest2));
-      returned = omega (arith, ltb-false (p .cycles) (p .kinds .returned) (or-right (ltb (p .cycles) (p .kinds .mispredict)) _ rest2));
-    })
-
-pub first-is : (p : Pipeline) (s : Running) → s ≡ runningOf p → p .retired ≡ s .tally .retired
-unfolding runningOf
-first-is p s e = rw e
-
-pub small-enough : (n : ℕ) (t : Tally) → n < 262145 → Small (262146 + n * 3) t → Small 2000000 t
-small-enough n t h s = record { retired = omega arith; cycles = omega arith; loaduse = omega arith; mispredict = omega arith; returned = omega arith }
+-- the logs keep their lengths
+pub same-lengths : (k : Pipeline) (m a y a₀ y₀ : List ℕ) (p : Piped) → pipeAnswer 0 k m a y ≡ pipeDone p a₀ y₀ → (length a ≡ length a₀) × (length y ≡ length y₀)
+unfolding pipeDone
+same-lengths k m a y a₀ y₀ p e = (
+  ap (λ (t : PipeAnswer). length (t .addresses)) e ∙ laid-length (p .addresses) a₀,
+  ap (λ (t : PipeAnswer). length (t .cycles)) e ∙ laid-length (p .cycles) y₀,
+)

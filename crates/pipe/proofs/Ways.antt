@@ -23,7 +23,6 @@ use Rattle.machine.specs.declared.Kept.{Kept}
 use Rattle.machine.specs.declared.Kept.the-variants.{NoneKept as noneKept, LastKept as lastKept}
 use Rattle.machine.specs.Table.{rowOf, is}
 use Rattle.machine.specs.Runs.{instructionRefused, refusedInD, refusedInE, refusedInM, refusedInW, refusedKept, countsRefused, recordRefused, sizeRefused, budgetRefused, pipeLimit, lowest}
-use Rattle.stage.specs.Retiring.{retires}
 use Rattle.pipe.specs.Parts.{noted, refusalBy}
 
 -- REFUSALS
@@ -112,6 +111,3 @@ written b k x l l′ t e = cc
 pub not-retired : (b : Bool) (k x : ℕ) (l : List ℕ) → b ≡ false → l ≡ noted b k x l
 unfolding noted
 not-retired b k x l t = cc
-
-pub noted-by : (w : StageW) (b : Bool) (k x : ℕ) (l l′ : List ℕ) → b ≡ retires w → l′ ≡ noted b k x l → l′ ≡ noted (retires w) k x l
-noted-by w b k x l l′ e h = cc

@@ -2,58 +2,45 @@
 use Prim.Native.Nat.{ℕ}
 use mathlib.Core.Bool.{Bool, cond}
 use mathlib.Core.List.{List, [], _∷_}
-use mathlib.Core.Path.{_≡_}
 use lib.Dec.{eqb}
 use lib.ListN.{length, set}
 use Rattle.machine.specs.declared.Pipeline.{Pipeline}
+use Rattle.machine.specs.declared.Status.{Status}
 use Rattle.machine.specs.Memory.{Memory, Registers}
 use Rattle.machine.specs.Prediction.{asIn01}
-use Rattle.machine.specs.Pipeline.{pipedOf, clocks, memoryAfter, registersAfter, badInW}
+use Rattle.machine.specs.Pipeline.{pipedOf, clocks}
 use Rattle.machine.specs.Runs.{sizeRefused, budgetRefused, recordRefused, pipeLimit, lowest, PipeAnswer, pipeAnswer, pipeDone}
-use Rattle.flow.specs.Moving.{flowAfter}
-use Rattle.stage.specs.Retiring.{retires, statusAfter, tallyAfter}
-use Rattle.pipe.specs.declared.running.Running.{Running}
+use Rattle.flow.specs.declared.Flow.{Flow}
+use Rattle.stage.specs.declared.retiring.Tally.{Tally}
 
 -- THE RECORD
-unfoldable pub runningOf : Pipeline → Running
-runningOf p =
-    record {
-      flow = record { predicted = p .predicted; d = p .d; e = p .e; m = p .m; w = p .w; codes = p .codes };
-      tally = record { last = p .last; retired = p .retired; cycles = p .cycles; kinds = p .kinds; kept = p .kept };
-      status = p .status;
-    }
+unfoldable pub flowOf : Pipeline → Flow
+flowOf p = record { predicted = p .predicted; d = p .d; e = p .e; m = p .m; w = p .w; codes = p .codes }
 
-unfoldable pub whole : Running → Registers → Pipeline
-whole s r =
+unfoldable pub tallyOf : Pipeline → Tally
+tallyOf p = record { last = p .last; retired = p .retired; cycles = p .cycles; kinds = p .kinds; kept = p .kept }
+
+unfoldable pub whole : Flow → Tally → Status → Registers → Pipeline
+whole f t x r =
     record {
-      predicted = s .flow .predicted;
-      d = s .flow .d;
-      e = s .flow .e;
-      m = s .flow .m;
-      w = s .flow .w;
+      predicted = f .predicted;
+      d = f .d;
+      e = f .e;
+      m = f .m;
+      w = f .w;
       registers = r;
-      codes = s .flow .codes;
-      status = s .status;
-      last = s .tally .last;
-      retired = s .tally .retired;
-      cycles = s .tally .cycles;
-      kinds = s .tally .kinds;
-      kept = s .tally .kept;
+      codes = f .codes;
+      status = x;
+      last = t .last;
+      retired = t .retired;
+      cycles = t .cycles;
+      kinds = t .kinds;
+      kept = t .kept;
     }
 
--- ONE CLOCK
+-- THE LOGS
 unfoldable pub noted : Bool → ℕ → ℕ → List ℕ → List ℕ
 noted b k x log = cond b (set log k x) log
-
--- from s with registers r, memory m and logs a and y to s′, r′, m′, a′ and y′
-pub record Ticked (s : Running) (place : ℕ) (r m a y : List ℕ) (s′ : Running) (r′ m′ a′ y′ : List ℕ) : Type 0 where
-  pub flow : s′ .flow ≡ cond (badInW (s .flow .w)) (s .flow) (flowAfter (s .flow) r m)
-  pub tally : s′ .tally ≡ tallyAfter (s .tally) (s .flow .w)
-  pub status : s′ .status ≡ statusAfter (s .flow .w)
-  pub registers : r′ ≡ cond (badInW (s .flow .w)) r (registersAfter (s .flow .w) r)
-  pub memory : m′ ≡ cond (badInW (s .flow .w)) m (memoryAfter (s .flow .m) m)
-  pub addresses : a′ ≡ noted (retires (s .flow .w)) place (s′ .tally .last) a
-  pub cycles : y′ ≡ noted (retires (s .flow .w)) place (s′ .tally .cycles) y
 
 -- THE ENTRIES
 unfoldable pub refusalBy : Bool → Pipeline → (size budget : ℕ) → ℕ

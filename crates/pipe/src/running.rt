@@ -1,6 +1,6 @@
-// The loop of every entry, with the registers out of the record for its length.
+// The loop of every entry, with the record taken apart for its length.
 use flow::Flow;
-use flow::moved;
+use flow::advance;
 use isa::decoding::is_bad;
 use machine::Pipeline;
 use machine::Status;
@@ -8,61 +8,52 @@ use stage::retiring::Tally;
 use stage::retiring::counted;
 use stage::retiring::retires;
 use stage::retiring::status_after;
+use stage::signals::bad_in_w;
 ghost use mathlib.Core.Path.{_≡_};
 ghost use mathlib.Core.Bool.{false};
-ghost use Prim.Native.Nat.{_+_, _-_, _≤_, _<_};
+ghost use Prim.Native.Nat.{_+_, _≤_};
 ghost use Rattle.machine.specs.Prediction.{asIn01};
 ghost use Rattle.machine.specs.Pipeline.{pipedOf, clocks};
 ghost use Rattle.machine.specs.Runs.{pipeAnswer, pipeDone, countsRefused};
-ghost use Rattle.stage.specs.Retiring.{Small};
-ghost use Rattle.pipe.specs.Parts.{runningOf, whole, noted, Ticked};
+ghost use Rattle.pipe.specs.Parts.{flowOf, tallyOf, whole, noted};
 
-// The record without its registers.
-pub struct Running {
-    pub flow: Flow,
-    pub tally: Tally,
-    pub status: Status,
-}
-
-fn taken_apart(p: Pipeline) -> Running
-    ensures { λ r. ⌜ r ≡ runningOf p ⌝ }
+// What a clock moves.
+fn flow_of(p: Pipeline) -> Flow
+    ensures { λ r. ⌜ r ≡ flowOf p ⌝ }
 {
     let d = p.d;
     let e = p.e;
     let m = p.m;
     let w = p.w;
     let codes = p.codes;
-    let kinds = p.kinds;
-    let kept = p.kept;
-    let status = p.status;
-    let flow = Flow {
+    Flow {
         predicted: p.predicted,
         d,
         e,
         m,
         w,
         codes,
-    };
-    let tally = Tally {
+    }
+}
+
+// What a clock counts.
+fn tally_of(p: Pipeline) -> Tally
+    ensures { λ r. ⌜ r ≡ tallyOf p ⌝ }
+{
+    let kinds = p.kinds;
+    let kept = p.kept;
+    Tally {
         last: p.last,
         retired: p.retired,
         cycles: p.cycles,
         kinds,
         kept,
-    };
-    Running {
-        flow,
-        tally,
-        status,
     }
 }
 
-fn put_together(s: Running, registers: [u64; 15]) -> Pipeline
-    ensures { λ r. ⌜ r ≡ whole s registers ⌝ }
+fn put_together(flow: Flow, tally: Tally, status: Status, registers: [u64; 15]) -> Pipeline
+    ensures { λ r. ⌜ r ≡ whole flow tally status registers ⌝ }
 {
-    let flow = s.flow;
-    let tally = s.tally;
-    let status = s.status;
     let d = flow.d;
     let e = flow.e;
     let m = flow.m;
@@ -96,34 +87,7 @@ fn note(retired: bool, place: u64, x: u64, log: &mut [u64])
     }
 }
 
-// One clock of a machine that has not stopped, with the registers and the logs beside it.
-fn tick(
-    s: Running,
-    place: u64,
-    registers: &mut [u64; 15],
-    memory: &mut [u8],
-    addresses: &mut [u64],
-    cycles: &mut [u64],
-) -> Running
-    requires { ⌜ Small 2000000 (s .tally) ⌝ }
-    ensures { λ r. ⌜ Ticked s place (now (registers .entry)) (now (memory .entry)) (now (addresses .entry)) (now (cycles .entry)) r (now (registers .exit)) (now (memory .exit)) (now (addresses .exit)) (now (cycles .exit)) ⌝ }
-{
-    let before = s.flow;
-    let count = s.tally;
-    let w = before.w;
-    let retired = retires(w);
-    let tally = counted(count, w);
-    let status = status_after(w);
-    let flow = moved(before, registers, memory);
-    note(retired, place, tally.last, addresses);
-    note(retired, place, tally.cycles, cycles);
-    Running {
-        flow,
-        tally,
-        status,
-    }
-}
-
+// Flow, counts and status are locals of their own, and a stop leaves at once: no two branches hand on a flow, which would pin it in memory.
 pub fn looped(
     pipeline: Pipeline,
     memory: &mut [u8],
@@ -136,16 +100,26 @@ pub fn looped(
 {
     let first = pipeline.retired;
     let mut registers = pipeline.registers;
-    let mut s = taken_apart(pipeline);
+    let mut flow = flow_of(pipeline);
+    let mut tally = tally_of(pipeline);
+    let mut status = pipeline.status;
     let mut done: u64 = 0;
     while done < budget {
-        let status = s.status;
         if is_bad(status) {
             break;
         }
-        let place = s.tally.retired - first;
-        s = tick(s, place, &mut registers, memory, addresses, cycles);
+        let place = tally.retired - first;
+        let w = flow.w;
+        let retired = retires(w);
+        tally = counted(tally, w);
+        status = status_after(w);
+        note(retired, place, tally.last, addresses);
+        note(retired, place, tally.cycles, cycles);
         done += 1;
+        if bad_in_w(w) {
+            break; // everything else stays as it stood
+        }
+        flow = advance(flow, &mut registers, memory);
     }
-    put_together(s, registers)
+    put_together(flow, tally, status, registers)
 }

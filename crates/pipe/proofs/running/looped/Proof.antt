@@ -1,83 +1,109 @@
 use mathlib.Core.Logic.{⊎-elim}
-use mathlib.Core.Path.{_≡_, refl, _∙_}
+use mathlib.Core.Path.{_≡_, refl, sym, _∙_}
 use Prim.Native.Nat.{_-_, _≤_}
 use native.Mathlib.Omega.{arith}
 use lib.ListN.{length}
 use borrow.Author.Needs.{needs}
-use Rattle.pipe.proofs.Runs.{Here, here-first, here-next, at-budget, at-stop, first-is, small-first, small-enough}
+use Rattle.machine.specs.Pipeline.{pipedOf}
+use Rattle.pipe.specs.Parts.{whole}
+use Rattle.pipe.proofs.Runs.{Here, here-first, here-next, here-stopped, at-budget, at-stop, same-start, same-lengths, small-enough}
 use Rattle.pipe.proofs.running.looped.Statement.{statement}
 use Rattle.pipe.proofs.running.looped.Tie as tie
 
 abbrev Inv-loop : tie.InvT-loop
-Inv-loop memory₀ budget addresses₀ cycles₀ first registers₀ s₀ done₀ memory addresses cycles registers s done =
-    Here s₀ registers₀ memory₀ addresses₀ cycles₀ done s registers memory addresses cycles × (done ≤ budget) × (first ≡ s₀ .tally .retired)
-    × (length memory ≡ length memory₀) × (length addresses ≡ length addresses₀) × (length cycles ≡ length cycles₀)
+Inv-loop memory₀ budget addresses₀ cycles₀ first registers₀ flow₀ tally₀ status₀ done₀ memory addresses cycles registers flow tally status done =
+    Here (pipedOf (whole flow₀ tally₀ status₀ registers₀) memory₀) first addresses₀ cycles₀ done flow tally status registers memory addresses cycles × (done ≤ budget)
+    × (length memory ≡ length memory₀)
 
 abbrev μ-loop : tie.MeasureT-loop
-μ-loop memory₀ budget addresses₀ cycles₀ first registers₀ s₀ done₀ memory addresses cycles registers s done = budget - done
+μ-loop memory₀ budget addresses₀ cycles₀ first registers₀ flow₀ tally₀ status₀ done₀ memory addresses cycles registers flow tally status done =
+    budget - done
 
-taken-apart-requires : tie.Need-taken-apart-requires Inv-loop μ-loop
-taken-apart-requires c κs = search needs
+flow-of-requires : tie.Need-flow-of-requires Inv-loop μ-loop
+flow-of-requires c κs = search needs
+
+tally-of-requires : tie.Need-tally-of-requires Inv-loop μ-loop
+tally-of-requires c κs = search needs
 
 loop-holds : tie.Need-loop-holds Inv-loop μ-loop
 loop-holds c =
-    let start = c .before .before .before .before .before in
-    (here-first _ _ _ _ _ (small-first _ _ (c .taken-apart .ensures) (start .pre .1) (omega (arith, start .pre .0))), omega arith, first-is _ _ (c .taken-apart .ensures), refl, refl, refl)
+    let start = c .before .before .before .before .before .before in
+    (here-first _ (c .tally-of .ensures) (start .pre .1) (omega (arith, start .pre .0)), omega arith, refl)
 
 is-bad-requires : tie.Need-is-bad-requires Inv-loop μ-loop
 is-bad-requires c κs = search needs
 
 sub-place : tie.Need-sub-place Inv-loop μ-loop
-sub-place c =
-    let l = c .before .before .before .before .loop in
-    omega (arith, l .inv .0 .entered, l .inv .2)
+sub-place c = omega (arith, c .before .before .before .before .loop .inv .0 .entered)
 
-tick-requires : tie.Need-tick-requires Inv-loop μ-loop
-tick-requires c κs =
-    let t = c .before .before .before .before .before .before .before in
-    small-enough _ _ (omega arith) (t .before .loop .inv .0 .small)
+retires-requires : tie.Need-retires-requires Inv-loop μ-loop
+retires-requires c κs = search needs
+
+counted-requires : tie.Need-counted-requires Inv-loop μ-loop
+counted-requires c κs = small-enough _ _ (omega arith) (c .before .before .before .before .before .loop .inv .0 .small)
+
+status-after-requires : tie.Need-status-after-requires Inv-loop μ-loop
+status-after-requires c κs = search needs
+
+note-requires : tie.Need-note-requires Inv-loop μ-loop
+note-requires c κs = search needs
+
+note-requires-2 : tie.Need-note-requires-2 Inv-loop μ-loop
+note-requires-2 c κs = search needs
 
 add-done : tie.Need-add-done Inv-loop μ-loop
 add-done c =
     let i = c .before .before .before .before .before .before .before .before .before .before .before .before .before .before in
-    omega (arith, i .loop-test .taken, i .before .before .before .before .before .before .before .fits .budget)
+    omega (arith, i .loop-test .taken, i .before .before .before .before .before .before .before .before .fits .budget)
+
+bad-in-w-requires : tie.Need-bad-in-w-requires Inv-loop μ-loop
+bad-in-w-requires c κs = search needs
+
+advance-requires : tie.Need-advance-requires Inv-loop μ-loop
+advance-requires c κs = search needs
 
 loop-less : tie.Need-loop-less Inv-loop μ-loop
-loop-less c = omega arith
+loop-less c = omega (arith, c .before .before .before .before .before .before .before .before .before .before .before .before .before .before .before .before .before .before .before .before .before .loop-test .taken)
 
 loop-again : tie.Need-loop-again Inv-loop μ-loop
 loop-again c =
-    let t = c .before .before .before .before .before .before in
-    let i = t .before .before .before .before .before .before in
-    let l = i .before .before .before in (
-      here-next _ _ _ _ _ _ _ _ _ _ _ _ _ _ _ _ _ _ (l .loop .inv .0) (i .before .is-bad .ensures) (i .if1 .left) (l .loop .inv .2) (t .tick .ensures),
-      omega (arith, i .before .before .loop-test .taken),
-      l .loop .inv .2,
-      t .tick .kept .1 .1 .1 .0 ∙ l .loop .inv .3,
-      t .tick .kept .1 .1 .1 .1 .0 ∙ l .loop .inv .4,
-      t .tick .kept .1 .1 .1 .1 .1 .0 ∙ l .loop .inv .5,
+    let v = c .before .before .before .before .before in
+    let n = v .before .before .before .before in
+    let q = n .before .before .before .before .before .before .before .before in
+    let l = q .before .before .before .before .before in (
+      here-next (l .loop .inv .0) (q .before .before .before .is-bad .ensures) (q .before .before .if1 .left) (q .retires .ensures)
+          (n .before .before .before .before .before .before .before .counted .ensures) (n .before .before .before .before .before .before .status-after .ensures)
+          (n .before .before .before .before .note .ensures) (n .note2 .ensures) (v .before .bad-in-w .ensures) (v .if2 .left)
+          (c .before .before .advance .ensures .0) (c .before .before .advance .ensures .1) (c .before .before .advance .ensures .2),
+      omega (arith, q .before .before .before .before .loop-test .taken),
+      c .before .before .advance .kept .1 .1 .0 ∙ l .loop .inv .2,
     )
 
 put-together-requires : tie.Need-put-together-requires Inv-loop μ-loop
 put-together-requires c κs = search needs
 
-same-length : tie.Need-same-length Inv-loop μ-loop
-same-length c = c .before .before .loop .inv .3
-
-same-length-2 : tie.Need-same-length-2 Inv-loop μ-loop
-same-length-2 c = c .before .before .loop .inv .4
-
-same-length-3 : tie.Need-same-length-3 Inv-loop μ-loop
-same-length-3 c = c .before .before .loop .inv .5
-
+-- the ways out: the budget is spent, the machine had stopped, it stops in this clock
 returns : tie.Need-returns Inv-loop μ-loop
 returns c =
     let l = c .before .before in
-    let from = l .before .taken-apart .ensures in
+    let from = same-start (l .before .before .flow-of .ensures) (l .before .tally-of .ensures) in
     ⊎-elim
-    (λ w. at-budget _ _ _ _ _ _ _ _ _ _ _ _ _ _ from refl (l .loop .inv .0) (l .loop .inv .1) (c .put-together .ensures) (w .left))
-    (λ w. at-stop _ _ _ _ _ _ _ _ _ _ _ _ _ _ from refl (l .loop .inv .0) (l .loop .inv .1) (c .put-together .ensures) _ (w .1 .ensures) (w .2 .taken))
+    (λ w. at-budget _ from (l .loop .inv .0) (c .put-together .ensures) (w .1) (w .2) (w .3) (w .4) (omega (arith, l .loop .inv .1)))
+    (⊎-elim
+    (λ w. at-stop _ from (l .loop .inv .0) (c .put-together .ensures) (w .3) (w .4) (w .5) (w .6) (l .loop .inv .1) (sym (w .1 .ensures) ∙ w .2 .taken))
+    (λ w.
+    let h = here-stopped (l .loop .inv .0) (w .1 .ensures) (w .2 .left) (w .4 .ensures) (w .5 .ensures) (w .6 .ensures) (w .8 .ensures) (w .12 .ensures) (w .15 .ensures) (w .16 .taken) in
+    at-stop _ from (h .0) (c .put-together .ensures) (w .17) (w .18) (w .19) (w .20) (omega (arith, w .0 .taken)) (h .1)))
     (c .before .loop-test .came)
+
+same-length : tie.Need-same-length Inv-loop μ-loop
+same-length c = c .before .before .loop .inv .2
+
+same-length-2 : tie.Need-same-length-2 Inv-loop μ-loop
+same-length-2 c = same-lengths _ _ _ _ _ _ _ (returns c) .0
+
+same-length-3 : tie.Need-same-length-3 Inv-loop μ-loop
+same-length-3 c = same-lengths _ _ _ _ _ _ _ (returns c) .1
 
 pub looped-spec : {M : Type 1} → statement M
 looped-spec =
@@ -85,12 +111,19 @@ looped-spec =
     (tie.spec
     Inv-loop
     μ-loop
-    taken-apart-requires
+    flow-of-requires
+    tally-of-requires
     loop-holds
     is-bad-requires
     sub-place
-    tick-requires
+    retires-requires
+    counted-requires
+    status-after-requires
+    note-requires
+    note-requires-2
     add-done
+    bad-in-w-requires
+    advance-requires
     loop-less
     loop-again
     put-together-requires
