@@ -6,17 +6,18 @@ use Prim.Native.Nat.{ℕ}
 use Rattle.machine.specs.declared.Pipeline.{Pipeline}
 use Rattle.machine.specs.declared.Status.{Status}
 use Rattle.machine.specs.declared.Status.the-variants.{Aok as aok, Hlt as hlt, Adr as adr, Ins as ins}
+use Rattle.machine.specs.declared.StageD.{StageD}
+use Rattle.machine.specs.declared.StageD.the-variants.{BubbleD as bubbleD, InD as inD}
 use Rattle.machine.specs.declared.StageW.{StageW}
 use Rattle.machine.specs.declared.StageW.the-variants.{BubbleW as bubbleW, InW as inW}
 use Rattle.machine.specs.Types.{isBad}
 use Rattle.machine.specs.Memory.{Memory, Registers}
 use Rattle.machine.specs.Prediction.{asIn01}
-use Rattle.machine.specs.Pipeline.{Piped, badInW, memoryAfter, registersAfter, lastAfter, retiredAfter, kindsAfter, logged, advanced, stoppedIn, clockBy, clock, waits, mispredicts, returns, fails, fetchAddress, fetchedNow, nextF, nextD, nextE, nextM, nextCodes}
+use Rattle.machine.specs.Pipeline.{Piped, afterE, afterM, source, sourceM, sourceW, decodedD, badInW, memoryAfter, registersAfter, lastAfter, retiredAfter, kindsAfter, logged, advanced, stoppedIn, clockBy, clock, waits, mispredicts, returns, fails, fetchAddress, fetchedNow, nextF, nextD, nextE, nextM, nextCodes}
 use Rattle.stage.specs.Retiring.{statusAfter, tallyAfter}
-use Rattle.stage.proofs.Sources.{decoded-is}
 use Rattle.stage.specs.declared.retiring.Tally.{Tally}
 use Rattle.flow.specs.declared.Flow.{Flow}
-use Rattle.flow.specs.Moving.{signalsOf, fetchedIn, decodedIn, shiftedOf, flowAfter}
+use Rattle.flow.specs.Moving.{signalsOf, fetchedIn, sourceIn, decodedIn, shiftedOf, flowAfter}
 use Rattle.pipe.specs.Parts.{whole}
 
 -- the record, its memory and its logs
@@ -41,6 +42,13 @@ after t es ys w f r m =
     let t′ = tallyAfter t w in
     piped (whole f t′ (statusAfter w) r) m (es ++ logged w (t′ .last)) (ys ++ logged w (t′ .cycles))
 
+-- the flow's order of sources is that of the definitions
+decoded-is : (f : Flow) (t : Tally) (x : Status) (r : Registers) (m : Memory) (es ys : List ℕ) (d : StageD)
+    → decodedIn d (afterE (f .e) (f .codes)) (afterM (f .m) m) (f .w) r ≡ decodedD (piped (whole f t x r) m es ys) d
+unfolding decodedIn decodedD sourceIn source sourceM sourceW whole
+decoded-is f t x r m es ys bubbleD = refl
+decoded-is f t x r m es ys (inD i) = refl
+
 module _ (f : Flow) (t : Tally) (x : Status) (r : Registers) (m : Memory) (es ys : List ℕ) where
   abbrev now : Piped
   now = piped (whole f t x r) m es ys
@@ -60,5 +68,5 @@ module _ (f : Flow) (t : Tally) (x : Status) (r : Registers) (m : Memory) (es ys
   stops h b = rw h (stops-by (f .w) b)
 
   pub goes : isBad x ≡ false → badInW (f .w) ≡ false → clock asIn01 now ≡ after t es ys (f .w) (flowAfter f r m) (registersAfter (f .w) r) (memoryAfter (f .m) m)
-  unfolding clock advanced whole tallyAfter flowAfter shiftedOf signalsOf fetchedIn decodedIn waits mispredicts returns fails fetchAddress fetchedNow nextF nextD nextE nextM nextCodes
-  goes h b = rw h (goes-by (f .w) b ∙ rw (b, good-status (statusAfter (f .w)) (bad-after (f .w) ∙ b), decoded-is now (f .d)))
+  unfolding clock advanced whole tallyAfter flowAfter shiftedOf signalsOf fetchedIn waits mispredicts returns fails fetchAddress fetchedNow nextF nextD nextE nextM nextCodes
+  goes h b = rw h (goes-by (f .w) b ∙ rw (b, good-status (statusAfter (f .w)) (bad-after (f .w) ∙ b), decoded-is f t x r m es ys (f .d)))

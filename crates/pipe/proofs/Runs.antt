@@ -9,6 +9,7 @@ use native.Mathlib.Omega.{arith}
 use lib.Dec.{ltb}
 use lib.ListN.{length, length-append}
 use borrow.Author.Tests.{ltb-false}
+use Rattle.registers.specs.File.{length-after-w}
 use Rattle.answers.specs.Refusals.{or-right}
 use Rattle.answers.specs.Logs.{laid-more, laid-length}
 use Rattle.machine.specs.declared.Pipeline.{Pipeline}
@@ -26,7 +27,7 @@ use Rattle.machine.specs.Runs.{laid, countsRefused, PipeAnswer, pipeAnswer, pip
 use Rattle.stage.specs.declared.retiring.Tally.{Tally}
 use Rattle.stage.specs.Retiring.{Small, retires, statusAfter, tallyAfter}
 use Rattle.flow.specs.declared.Flow.{Flow}
-use Rattle.flow.specs.Moving.{flowAfter}
+use Rattle.flow.specs.Moving.{aheadOf, shiftedOf, flowAfter}
 use Rattle.pipe.specs.Parts.{flowOf, tallyOf, whole, noted}
 use Rattle.pipe.proofs.Clocks.{piped, after, bad-after, stops, goes}
 
@@ -106,21 +107,23 @@ pub record Here (p₀ : Piped) (first : ℕ) (a₀ y₀ : List ℕ) (n : ℕ) (f
   pub entered : first + length entries ≡ t .retired
   pub timed : first + length times ≡ t .retired
   pub small : Small (262146 + n * 3) t
+  pub ahead : f .targets ≡ aheadOf (f .m) (f .w)
+  pub long : length r ≡ 15
 
-pub here-first : {f : Flow} {t : Tally} {x : Status} {r m a y : List ℕ} (k : Pipeline) → t ≡ tallyOf k → countsRefused k ≡ false → k .cycles ≤ 262145
+pub here-first : {f : Flow} {t : Tally} {x : Status} {r m a y : List ℕ} (k : Pipeline) → f ≡ flowOf k → length r ≡ 15 → t ≡ tallyOf k → countsRefused k ≡ false → k .cycles ≤ 262145
     → Here (pipedOf (whole f t x r) m) (k .retired) a y 0 f t x r m a y
-unfolding clocks laid tallyOf
-here-first k e h c =
-    record { entries = []; times = []; state = refl; addresses = refl; cycles = refl; entered = rw e (omega arith); timed = rw e (omega arith); small = rw e (small-first k h c) }
+unfolding clocks laid flowOf tallyOf
+here-first k i l e h c =
+    record { entries = []; times = []; state = refl; addresses = refl; cycles = refl; entered = rw e (omega arith); timed = rw e (omega arith); small = rw e (small-first k h c); ahead = rw i; long = l }
 
 -- one clock more of a machine that has not stopped; b, q and v are what the code found bad, retiring and bad in W
 module _ {p₀ : Piped} {first : ℕ} {a₀ y₀ : List ℕ} {n : ℕ} {f : Flow} {t t′ : Tally} {x x′ : Status} {r m a y a′ y′ : List ℕ} {b q v : Bool}
     (h : Here p₀ first a₀ y₀ n f t x r m a y) (eb : b ≡ isBad x) (good : b ≡ false) (eq : q ≡ retires (f .w)) (et : t′ ≡ tallyAfter t (f .w)) (ex : x′ ≡ statusAfter (f .w))
     (ea : a′ ≡ noted q (t .retired - first) (t′ .last) a) (ey : y′ ≡ noted q (t .retired - first) (t′ .cycles) y) (ev : v ≡ badInW (f .w)) where
   here-after : (f′ : Flow) (r′ m′ : List ℕ) → clock asIn01 (piped (whole f t x r) m (h .entries) (h .times)) ≡ after t (h .entries) (h .times) (f .w) f′ r′ m′
-      → Here p₀ first a₀ y₀ (n + 1) f′ t′ x′ r′ m′ a′ y′
+      → f′ .targets ≡ aheadOf (f′ .m) (f′ .w) → length r′ ≡ 15 → Here p₀ first a₀ y₀ (n + 1) f′ t′ x′ r′ m′ a′ y′
   unfolding clocks tallyAfter
-  here-after f′ r′ m′ e =
+  here-after f′ r′ m′ e i l =
       let at : t .retired - first ≡ length (h .entries) = omega (arith, h .entered) in
       let at-time : t .retired - first ≡ length (h .times) = omega (arith, h .timed) in
       let more : 262146 + (n + 1) * 3 ≡ 262146 + n * 3 + 3 = omega arith in
@@ -133,14 +136,17 @@ module _ {p₀ : Piped} {first : ℕ} {a₀ y₀ : List ℕ} {n : ℕ} {f : Flow
         entered = cc (logged-count (f .w) (h .entries) (t′ .last) first (t .retired) (h .entered));
         timed = cc (logged-count (f .w) (h .times) (t′ .cycles) first (t .retired) (h .timed));
         small = rw (et, more) (tally-small (262146 + n * 3) t (f .w) (h .small));
+        ahead = i;
+        long = l;
       }
 
   pub here-next : {f′ : Flow} {r′ m′ : List ℕ} → v ≡ false → f′ ≡ flowAfter f r m → r′ ≡ registersAfter (f .w) r → m′ ≡ memoryAfter (f .m) m
       → Here p₀ first a₀ y₀ (n + 1) f′ t′ x′ r′ m′ a′ y′
-  here-next w ef er em = rw (ef, er, em) (here-after _ _ _ (goes f t x r m (h .entries) (h .times) (cc) (cc)))
+  unfolding flowAfter shiftedOf
+  here-next w ef er em = rw (ef, er, em) (here-after _ _ _ (goes f t x r m (h .entries) (h .times) (cc) (cc)) refl (length-after-w (f .w) r ∙ h .long))
 
   pub here-stopped : v ≡ true → Here p₀ first a₀ y₀ (n + 1) f t′ x′ r m a′ y′ × (isBad x′ ≡ true)
-  here-stopped w = (here-after f r m (stops f t x r m (h .entries) (h .times) (cc) (cc)), cc (bad-after (f .w)))
+  here-stopped w = (here-after f r m (stops f t x r m (h .entries) (h .times) (cc) (cc)) (h .ahead) (h .long), cc (bad-after (f .w)))
 
 -- THE END
 -- from a stop on a clock changes nothing

@@ -23,7 +23,10 @@ use Rattle.machine.specs.declared.Kept.{Kept}
 use Rattle.machine.specs.declared.Kept.the-variants.{NoneKept as noneKept, LastKept as lastKept}
 use Rattle.machine.specs.Table.{rowOf, is}
 use Rattle.machine.specs.Runs.{instructionRefused, refusedInD, refusedInE, refusedInM, refusedInW, refusedKept, countsRefused, recordRefused, sizeRefused, budgetRefused, pipeLimit, lowest}
-use Rattle.pipe.specs.Parts.{noted, refusalBy}
+use Rattle.stage.specs.declared.forwarding.Targets.{Targets}
+use Rattle.stage.specs.Forwarding.{targetsM, targetsW}
+use Rattle.flow.specs.Moving.{aheadOf}
+use Rattle.pipe.specs.Parts.{flowOf, noted, refusalBy}
 
 -- REFUSALS
 pub instruction-is : (i : Instruction) (n : ℕ) → n ≡ rowOf (i .code) .functions
@@ -111,3 +114,9 @@ written b k x l l′ t e = cc
 pub not-retired : (b : Bool) (k x : ℕ) (l : List ℕ) → b ≡ false → l ≡ noted b k x l
 unfolding noted
 not-retired b k x l t = cc
+
+-- THE RECORD
+pub taken-apart : (p : Pipeline) (t u : Targets) → t ≡ targetsM (p .m) → u ≡ targetsW (p .w)
+    → record { predicted = p .predicted; d = p .d; e = p .e; m = p .m; w = p .w; codes = p .codes; targets = record { m = t; w = u } } ≡ flowOf p
+unfolding flowOf aheadOf
+taken-apart p t u e f = cc

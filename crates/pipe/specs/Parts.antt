@@ -11,11 +11,12 @@ use Rattle.machine.specs.Prediction.{asIn01}
 use Rattle.machine.specs.Pipeline.{pipedOf, clocks}
 use Rattle.machine.specs.Runs.{sizeRefused, budgetRefused, recordRefused, pipeLimit, lowest, PipeAnswer, pipeAnswer, pipeDone}
 use Rattle.flow.specs.declared.Flow.{Flow}
+use Rattle.flow.specs.Moving.{aheadOf}
 use Rattle.stage.specs.declared.retiring.Tally.{Tally}
 
 -- THE RECORD
 unfoldable pub flowOf : Pipeline → Flow
-flowOf p = record { predicted = p .predicted; d = p .d; e = p .e; m = p .m; w = p .w; codes = p .codes }
+flowOf p = record { predicted = p .predicted; d = p .d; e = p .e; m = p .m; w = p .w; codes = p .codes; targets = aheadOf (p .m) (p .w) }
 
 unfoldable pub tallyOf : Pipeline → Tally
 tallyOf p = record { last = p .last; retired = p .retired; cycles = p .cycles; kinds = p .kinds; kept = p .kept }

@@ -1,9 +1,12 @@
 // The loop of every entry, with the record taken apart for its length.
+use flow::Ahead;
 use flow::Flow;
 use flow::advance;
 use isa::decoding::is_bad;
 use machine::Pipeline;
 use machine::Status;
+use stage::forwarding::targets_m;
+use stage::forwarding::targets_w;
 use stage::retiring::Tally;
 use stage::retiring::counted;
 use stage::retiring::retires;
@@ -26,6 +29,10 @@ fn flow_of(p: Pipeline) -> Flow
     let m = p.m;
     let w = p.w;
     let codes = p.codes;
+    let targets = Ahead {
+        m: targets_m(m),
+        w: targets_w(w),
+    };
     Flow {
         predicted: p.predicted,
         d,
@@ -33,6 +40,7 @@ fn flow_of(p: Pipeline) -> Flow
         m,
         w,
         codes,
+        targets,
     }
 }
 

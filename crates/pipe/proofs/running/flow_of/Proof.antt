@@ -1,11 +1,16 @@
-use mathlib.Core.Path.{refl}
-use Rattle.pipe.specs.Parts.{flowOf}
+use Rattle.pipe.proofs.Ways.{taken-apart}
+use borrow.Author.Needs.{needs}
 use Rattle.pipe.proofs.running.flow_of.Statement.{statement}
 use Rattle.pipe.proofs.running.flow_of.Tie as tie
 
+targets-m-requires : tie.Need-targets-m-requires
+targets-m-requires c κs = search needs
+
+targets-w-requires : tie.Need-targets-w-requires
+targets-w-requires c κs = search needs
+
 returns : tie.Need-returns
-unfolding flowOf
-returns c = refl
+returns c = search (needs, taken-apart)
 
 pub flow-of-spec : {M : Type 1} → statement M
-flow-of-spec = tie.close (tie.spec returns)
+flow-of-spec = tie.close (tie.spec targets-m-requires targets-w-requires returns)

@@ -28,7 +28,8 @@ tally-of-requires c κs = search needs
 loop-holds : tie.Need-loop-holds Inv-loop μ-loop
 loop-holds c =
     let start = c .before .before .before .before .before .before in
-    (here-first _ (c .tally-of .ensures) (start .pre .1) (omega (arith, start .pre .0)), omega arith, refl)
+    let long : length (start .args .pipeline .registers) ≡ 15 = search (needs, start .good .0 .1 .1 .1 .1 .1 .1 .1 .0) in
+    (here-first _ (c .before .flow-of .ensures) long (c .tally-of .ensures) (start .pre .1) (omega (arith, start .pre .0)), omega arith, refl)
 
 is-bad-requires : tie.Need-is-bad-requires Inv-loop μ-loop
 is-bad-requires c κs = search needs
@@ -60,7 +61,9 @@ bad-in-w-requires : tie.Need-bad-in-w-requires Inv-loop μ-loop
 bad-in-w-requires c κs = search needs
 
 advance-requires : tie.Need-advance-requires Inv-loop μ-loop
-advance-requires c κs = search needs
+advance-requires c κs =
+    let h = c .before .before .before .before .before .before .before .before .before .before .before .before .before .before .before .before .before .before .before .loop .inv .0 in
+    (h .long, h .ahead)
 
 loop-less : tie.Need-loop-less Inv-loop μ-loop
 loop-less c = omega (arith, c .before .before .before .before .before .before .before .before .before .before .before .before .before .before .before .before .before .before .before .before .before .loop-test .taken)
