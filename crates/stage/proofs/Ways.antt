@@ -278,9 +278,9 @@ counted-by t waited = refl
 counted-by t wronglyGuessed = refl
 counted-by t returned = refl
 
-pub only-a-cycle : (t : Tally) (w : StageW) → w ≡ bubbleW → record { last = t .last; retired = t .retired; cycles = t .cycles + 1; kinds = t .kinds; kept = t .kept } ≡ tallyAfter t w
+pub only-a-cycle : (t : Tally) (w : StageW) (k : Kept) → w ≡ bubbleW → k ≡ t .kept → record { last = t .last; retired = t .retired; cycles = t .cycles + 1; kinds = t .kinds; kept = k } ≡ tallyAfter t w
 unfolding tallyAfter lastAfter retiredAfter kindsAfter keptAfter badInW
-only-a-cycle t w h = cc
+only-a-cycle t w k h e = cc
 
 pub one-retired : (t : Tally) (w : StageW) (x : Accessed) (n : ℕ) (s : Kinds) (k : Kept) → w ≡ inW x → n ≡ amount (reasonFrom asIn01 (t .kept) (x .instruction)) → s ≡ countedBy (t .kinds) n → k ≡ keptBy x (t .kept)
     → record { last = x .instruction .address; retired = t .retired + 1; cycles = t .cycles + 1; kinds = s; kept = k } ≡ tallyAfter t w

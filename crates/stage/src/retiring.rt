@@ -80,6 +80,7 @@ fn count(kinds: Kinds, charge: u8) -> Kinds
     }
 }
 
+// Built afresh on every way on which it stays.
 fn still_kept(kept: Kept) -> Kept
     ensures { λ r. ⌜ r ≡ kept ⌝ }
 {
@@ -141,7 +142,7 @@ pub fn counted(t: Tally, w: StageW) -> Tally
             retired: t.retired,
             cycles: t.cycles + 1,
             kinds,
-            kept,
+            kept: still_kept(kept),
         },
         StageW::InW(x) => {
             let i = x.instruction;

@@ -9,14 +9,17 @@ enum-told c = search needs
 add-t8 : tie.Need-add-t8
 add-t8 c = search needs
 
+still-kept-requires : tie.Need-still-kept-requires
+still-kept-requires c κs = search needs
+
 enum-known-w : tie.Need-enum-known-w
 enum-known-w c = search needs
 
-add-t9 : tie.Need-add-t9
-add-t9 c = search needs
-
 add-t10 : tie.Need-add-t10
 add-t10 c = search needs
+
+add-t11 : tie.Need-add-t11
+add-t11 c = search needs
 
 charge-from-requires : tie.Need-charge-from-requires
 charge-from-requires c κs = search needs
@@ -39,9 +42,10 @@ counted-spec =
     (tie.spec
     enum-told
     add-t8
+    still-kept-requires
     enum-known-w
-    add-t9
     add-t10
+    add-t11
     charge-from-requires
     count-requires
     kept-by-requires
