@@ -22,7 +22,7 @@ use Rattle.stage.specs.Forwarding.{noTargets, targetsM, targetsW, sourcesD, wri
 use Rattle.flow.specs.declared.Flow.{Flow}
 use Rattle.flow.specs.declared.Ahead.{Ahead}
 use Rattle.flow.specs.declared.Signals.{Signals}
-use Rattle.flow.specs.Moving.{aheadOf, signalsBy, signalsOf, fetchedIn, decodedIn, shiftedOf, flowAfter}
+use Rattle.flow.specs.Moving.{aheadOf, signalsWith, signalsBy, signalsOf, fetchedIn, decodedIn, shiftedOf, flowAfter}
 use Rattle.flow.proofs.Sources.{targets-stay, written-is, waits-is, decoded-is}
 
 pub fetched-is : (m : StageM) (w : StageW) (f : ℕ) (bytes : Memory) (a : ℕ) (i : Instruction) → a ≡ mended asIn01 m (returnedTo w f) → i ≡ fetch bytes a → i ≡ fetchedIn m w f bytes
@@ -32,7 +32,7 @@ fetched-is m w f bytes a i p q = cc
 pub signals-are : (s : Sources) (t : Targets) (d : StageD) (e : StageE) (m x : StageM) (y : StageW) (a b c f : Bool)
     → a ≡ (meets (t .loaded) (s .a) || meets (t .loaded) (s .b)) → b ≡ wrong asIn01 x → c ≡ (retInD d || (retInE e || retInM m)) → f ≡ badInW y
     → record { waits = a; mispredicts = b; returns = c; fails = f } ≡ signalsBy s t d e m x y
-unfolding signalsBy
+unfolding signalsBy signalsWith
 signals-are s t d e m x y a b c f p q u v = cc
 
 -- with D's sources and the targets of what stood in E, the code's signals are document 01's

@@ -1,6 +1,6 @@
 -- The stages' values through one clock, in the words of machine's Pipeline: x is E's instruction after execution, y M's after its access.
 use Prim.Native.Nat.{ℕ}
-use mathlib.Core.Bool.{cond, _||_}
+use mathlib.Core.Bool.{Bool, cond, _||_}
 use Rattle.machine.specs.declared.Instruction.{Instruction}
 use Rattle.machine.specs.declared.StageD.{StageD}
 use Rattle.machine.specs.declared.StageD.the-variants.{BubbleD as bubbleD, InD as inD}
@@ -25,24 +25,16 @@ use Rattle.flow.specs.declared.Signals.{Signals}
 unfoldable pub aheadOf : StageM → StageW → Ahead
 aheadOf m w = record { m = targetsM m; w = targetsW w }
 
--- what the code tests, s and t being D's sources and the targets of what stood in E
-unfoldable pub signalsBy : Sources → Targets → StageD → StageE → StageM → StageM → StageW → Signals
-signalsBy s t d e m x y =
-    record {
-      waits = meets (t .loaded) (s .a) || meets (t .loaded) (s .b);
-      mispredicts = wrong asIn01 x;
-      returns = retInD d || (retInE e || retInM m);
-      fails = badInW y;
-    }
+-- b says that D waits
+unfoldable pub signalsWith : Bool → StageD → StageE → StageM → StageM → StageW → Signals
+signalsWith b d e m x y = record { waits = b; mispredicts = wrong asIn01 x; returns = retInD d || (retInE e || retInM m); fails = badInW y }
 
 unfoldable pub signalsOf : StageD → StageE → StageM → StageM → StageW → Signals
-signalsOf d e m x y =
-    record {
-      waits = waitsBehind asIn01 e d;
-      mispredicts = wrong asIn01 x;
-      returns = retInD d || (retInE e || retInM m);
-      fails = badInW y;
-    }
+signalsOf d e m x y = signalsWith (waitsBehind asIn01 e d) d e m x y
+
+-- by D's sources s and the targets t of what stood in E, as the code tests it
+unfoldable pub signalsBy : Sources → Targets → StageD → StageE → StageM → StageM → StageW → Signals
+signalsBy s t d e m x y = signalsWith (meets (t .loaded) (s .a) || meets (t .loaded) (s .b)) d e m x y
 
 unfoldable pub fetchedIn : StageM → StageW → ℕ → Memory → Instruction
 fetchedIn m w f bytes = fetch bytes (mended asIn01 m (returnedTo w f))

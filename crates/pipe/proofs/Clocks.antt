@@ -17,7 +17,7 @@ use Rattle.machine.specs.Pipeline.{Piped, afterE, afterM, source, sourceM, sour
 use Rattle.stage.specs.Retiring.{statusAfter, tallyAfter}
 use Rattle.stage.specs.declared.retiring.Tally.{Tally}
 use Rattle.flow.specs.declared.Flow.{Flow}
-use Rattle.flow.specs.Moving.{signalsOf, fetchedIn, sourceIn, decodedIn, shiftedOf, flowAfter}
+use Rattle.flow.specs.Moving.{signalsWith, signalsOf, fetchedIn, sourceIn, decodedIn, shiftedOf, flowAfter}
 use Rattle.pipe.specs.Parts.{whole}
 
 -- the record, its memory and its logs
@@ -68,5 +68,5 @@ module _ (f : Flow) (t : Tally) (x : Status) (r : Registers) (m : Memory) (es ys
   stops h b = rw h (stops-by (f .w) b)
 
   pub goes : isBad x ≡ false → badInW (f .w) ≡ false → clock asIn01 now ≡ after t es ys (f .w) (flowAfter f r m) (registersAfter (f .w) r) (memoryAfter (f .m) m)
-  unfolding clock advanced whole tallyAfter flowAfter shiftedOf signalsOf fetchedIn waits mispredicts returns fails fetchAddress fetchedNow nextF nextD nextE nextM nextCodes
+  unfolding clock advanced whole tallyAfter flowAfter shiftedOf signalsOf signalsWith fetchedIn waits mispredicts returns fails fetchAddress fetchedNow nextF nextD nextE nextM nextCodes
   goes h b = rw h (goes-by (f .w) b ∙ rw (b, good-status (statusAfter (f .w)) (bad-after (f .w) ∙ b), decoded-is f t x r m es ys (f .d)))
