@@ -6,7 +6,7 @@ use Rattle.machine.specs.Memory.{Memory}
 use Rattle.machine.specs.Runs.{plainAnswer, pipeAnswer}
 use Rattle.edge.specs.Edge.{edge}
 use Rattle.cases.specs.Names.{Machine, Pipeline}
-use Rattle.cases.specs.Promises.{Operation, Fits, Promise, plain-start, plain-step, plain-run, pipe-start, pipe-clock, pipe-run, pipe-run-unlogged, host-edge}
+use Rattle.cases.specs.Promises.{Operation, Fits, Promise, fetching, plain-start, plain-step, plain-run, pipe-start, pipe-clock, pipe-run, pipe-run-unlogged, host-edge}
 
 -- two answers that both meet the promise for the same input are equal: number, record, all lent bytes and words
 abbrev pub OneAnswer : Operation → Type 0
@@ -18,6 +18,9 @@ one-answer o x r s a b = a ∙ sym b
 -- and there is one: each promise can be met
 pub met : (o : Operation) → Promise o (o .promised)
 met o x = refl
+
+pub one-fetching : OneAnswer fetching
+one-fetching = one-answer fetching
 
 pub one-plain-start : OneAnswer plain-start
 one-plain-start = one-answer plain-start
