@@ -1,10 +1,12 @@
--- The test of the budget, with its subtraction in the place of a sum that could wrap. Assumes nothing.
+-- One law for each way out; the test of the budget subtracts where a sum could wrap. Assumes nothing.
 use mathlib.Core.Path.{_≡_, refl}
-use mathlib.Core.Bool.{Bool, true, false}
-use Prim.Native.Nat.{ℕ, _+_, _-_, _≤_, _<_}
+use mathlib.Core.Bool.{Bool, true, false, cond}
+use Prim.Native.Nat.{ℕ, _+_, _-_, _*_, _≤_, _<_}
 use native.Mathlib.Omega.{arith}
 use lib.Dec.{ltb}
 use borrow.Author.Tests.{eq-eqb, ne-eqb, lt-ltb, le-ltb, ltb-true, ltb-false}
+use Rattle.machine.specs.declared.Codes.{Codes}
+use Rattle.machine.specs.Types.{codesNumber}
 use Rattle.machine.specs.Runs.{budgetRefused}
 
 pub none : (l c b : ℕ) → b ≡ 0 → true ≡ budgetRefused l c b
@@ -22,3 +24,7 @@ rest l c b h k = go (ltb (l - b) c) refl
     go : (t : Bool) → ltb (l - b) c ≡ t → ltb (l - b) c ≡ budgetRefused l c b
     go true e = cc (ne-eqb b 0 h, lt-ltb l (c + b) (omega (arith, ltb-true (l - b) c e)))
     go false e = cc (ne-eqb b 0 h, le-ltb l (c + b) (omega (arith, ltb-false (l - b) c e)))
+
+pub codes-is : (c : Codes) (z s o : ℕ) → z ≡ cond (c .zf) 1 0 → s ≡ cond (c .sf) 1 0 → o ≡ cond (c .of) 1 0 → 4 * z + 2 * s + o ≡ codesNumber c
+unfolding codesNumber
+codes-is c z s o e f g = cc

@@ -1,6 +1,10 @@
 // Budgets, logs, answers: what the entries of both engines and of the host edge share.
+use machine::Codes;
 ghost use mathlib.Core.Path.{_≡_};
+ghost use mathlib.Core.Bool.{cond};
+ghost use Prim.Native.Nat.{_≤_};
 ghost use lib.ListN.{set};
+ghost use Rattle.machine.specs.Types.{codesNumber};
 ghost use Rattle.machine.specs.Runs.{sizeRefused, budgetRefused};
 
 // Refusal 1: no memory, or more than 4,096 bytes.
@@ -31,4 +35,17 @@ pub fn note(log: &mut [u64], k: u64, x: u64)
     if at < log.len() {
         log[at] = x;
     }
+}
+
+fn bit(b: bool) -> u64
+    ensures { λ r. ⌜ (r ≡ cond b 1 0) × (r ≤ 1) ⌝ }
+{
+    if b { 1 } else { 0 }
+}
+
+// "codes as 4ZF + 2SF + OF"
+pub fn codes_number(c: Codes) -> u64
+    ensures { λ r. ⌜ r ≡ codesNumber c ⌝ }
+{
+    4 * bit(c.zf) + 2 * bit(c.sf) + bit(c.of)
 }

@@ -17,10 +17,6 @@ use Rattle.answers.specs.Refusals.{failed}
 use Rattle.edge.specs.Edge.{wordsIn, withWords, codesFrom, edgeRefusal, resultWords, edge, edgeDone, edgeRun, replayed}
 
 -- RESULT WORDS
-pub codes-is : (c : Codes) (z s o : ℕ) → z ≡ cond (c .zf) 1 0 → s ≡ cond (c .sf) 1 0 → o ≡ cond (c .of) 1 0 → 4 * z + 2 * s + o ≡ codesNumber c
-unfolding codesNumber
-codes-is c z s o e f g = cc
-
 pub result-is : (k : Pipeline) (b b′ : List ℕ) (s c : ℕ) → s ≡ statusNumber (k .status) → c ≡ codesNumber (k .codes)
     → b′ ≡ withWords (s ∷ k .last ∷ c ∷ k .retired ∷ k .cycles ∷ []) b 0 → b′ ≡ withWords (resultWords k) b 0
 unfolding resultWords

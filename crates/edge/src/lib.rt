@@ -3,10 +3,9 @@ use machine::Codes;
 use machine::Pipeline;
 use machine::Status;
 ghost use mathlib.Core.Path.{_≡_};
-ghost use mathlib.Core.Bool.{cond};
 ghost use Prim.Native.Nat.{_+_, _*_, _≤_, _<_};
 ghost use lib.ListN.{length, replicate};
-ghost use Rattle.machine.specs.Types.{statusNumber, codesNumber};
+ghost use Rattle.machine.specs.Types.{statusNumber};
 ghost use Rattle.edge.specs.Edge.{wordsIn, withWords, codesFrom, edgeRefusal, resultWords, edge, replayed};
 
 // The fifteen words of a register block.
@@ -45,18 +44,6 @@ fn codes_from(number: u64) -> Codes
     }
 }
 
-fn bit(b: bool) -> u64
-    ensures { λ r. ⌜ (r ≡ cond b 1 0) × (r ≤ 1) ⌝ }
-{
-    if b { 1 } else { 0 }
-}
-
-fn codes_number(c: Codes) -> u64
-    ensures { λ r. ⌜ r ≡ codesNumber c ⌝ }
-{
-    4 * bit(c.zf) + 2 * bit(c.sf) + bit(c.of)
-}
-
 fn status_number(status: Status) -> u64
     ensures { λ r. ⌜ r ≡ statusNumber status ⌝ }
 {
@@ -78,7 +65,7 @@ fn write_result(result: &mut [u8], end: Pipeline)
     let words = [
         status_number(status),
         end.last,
-        codes_number(codes),
+        answers::codes_number(codes),
         end.retired,
         end.cycles,
     ];

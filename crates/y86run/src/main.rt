@@ -35,16 +35,6 @@ fn put_status(status: Status) {
     }
 }
 
-fn bit(b: bool) -> u64
-    ensures { λ r. ⌜ r < 2 ⌝ }
-{
-    if b { 1 } else { 0 }
-}
-
-fn put_codes(c: Codes) {
-    put_number(b"codes", 4 * bit(c.zf) + 2 * bit(c.sf) + bit(c.of));
-}
-
 fn put_kinds(kinds: Kinds) {
     put_number(b"loaduse", kinds.loaduse);
     put_number(b"mispredict", kinds.mispredict);
@@ -89,7 +79,7 @@ fn put_end(end: Pipeline) {
     let registers = end.registers;
     put_status(status);
     put_number(b"last", end.last);
-    put_codes(codes);
+    put_number(b"codes", answers::codes_number(codes));
     put_number(b"retired", end.retired);
     put_number(b"cycles", end.cycles);
     put_kinds(kinds);

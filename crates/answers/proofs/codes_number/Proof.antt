@@ -1,7 +1,7 @@
-use Rattle.edge.proofs.Ways.{codes-is}
+use Rattle.answers.proofs.Ways.{codes-is}
 use borrow.Author.Needs.{needs}
-use Rattle.edge.proofs.codes_number.Statement.{statement}
-use Rattle.edge.proofs.codes_number.Tie as tie
+use Rattle.answers.proofs.codes_number.Statement.{statement}
+use Rattle.answers.proofs.codes_number.Tie as tie
 
 bit-requires : tie.Need-bit-requires
 bit-requires c κs = search needs
