@@ -14,7 +14,8 @@ use Rattle.machine.specs.Table.{rowOf, RegisterByte, noByte, bothNamed, onlyB, 
 use Rattle.machine.specs.Fetch.{stopping, halvesFit, half, checked, fetch}
 use Rattle.columns.specs.Lengths.{hasByte, length-rule, two}
 use Rattle.columns.specs.Fetching.{aokAt, fetch-is}
-use Rattle.isa.specs.Numbers.{byteNumber, halvesFitBy}
+use Rattle.rows.specs.Numbers.{byteNumber}
+use Rattle.isa.specs.Decisions.{halvesFitBy}
 use Rattle.isa.proofs.Entries.{fits-by}
 
 abbrev codeAt : Memory → ℕ → ℕ

@@ -1,9 +1,9 @@
 // Fetch: document 01's checks in their order.
-use crate::rows::byte_of;
-use crate::rows::functions_of;
-use crate::rows::size_of;
 use machine::Instruction;
 use machine::Status;
+use rows::byte_of;
+use rows::functions_of;
+use rows::size_of;
 ghost use mathlib.Core.Path.{_≡_};
 ghost use mathlib.Core.Bool.{cond};
 ghost use Prim.Native.Nat.{_+_, _-_, _≤_, _<_};
@@ -11,7 +11,7 @@ ghost use lib.Dec.{eqb, ltb};
 ghost use lib.ListN.{length, getD};
 ghost use Rattle.machine.specs.Words.{number};
 ghost use Rattle.machine.specs.Fetch.{fetch as fetchOf, stopping as stoppingOf};
-ghost use Rattle.isa.specs.Numbers.{halvesFitBy};
+ghost use Rattle.isa.specs.Decisions.{halvesFitBy};
 
 // An instruction fetched with a bad status travels as a nop with that status.
 fn stopping(address: u64, status: Status) -> Instruction

@@ -1,5 +1,5 @@
 use borrow.Author.Tests.{ne-eqb}
-use Rattle.isa.specs.Numbers.{halvesFitBy}
+use Rattle.isa.specs.Decisions.{halvesFitBy}
 use Rattle.isa.proofs.fetching.halves_fit.Statement.{statement}
 use Rattle.isa.proofs.fetching.halves_fit.Tie as tie
 

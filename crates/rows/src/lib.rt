@@ -1,7 +1,7 @@
 // The table of sixteen rows, a constant array for each column.
 ghost use mathlib.Core.Path.{_≡_};
 ghost use Rattle.machine.specs.Table.{rowOf};
-ghost use Rattle.isa.specs.Numbers.{byteNumber, whichNumber, computesNumber, accessesNumber};
+ghost use Rattle.rows.specs.Numbers.{byteNumber, whichNumber, computesNumber, accessesNumber};
 
 const SIZES: [u8; 16] = [1, 1, 2, 10, 10, 10, 2, 9, 9, 1, 2, 2, 1, 1, 1, 1];
 

@@ -1,9 +1,9 @@
-use Rattle.isa.proofs.Entries.{column-in, column-out}
+use Rattle.rows.proofs.Entries.{column-in, column-out}
 use Rattle.machine.specs.Table.{Row, table}
-use Rattle.isa.specs.Numbers.{byteNumber}
+use Rattle.rows.specs.Numbers.{byteNumber}
 use borrow.Author.Needs.{needs}
-use Rattle.isa.proofs.rows.byte_of.Statement.{statement}
-use Rattle.isa.proofs.rows.byte_of.Tie as tie
+use Rattle.rows.proofs.byte_of.Statement.{statement}
+use Rattle.rows.proofs.byte_of.Tie as tie
 
 array-read-result : tie.Need-array-read-result
 array-read-result c = search needs

@@ -1,4 +1,4 @@
--- The numbers by which the code's constant tables name the entries of a row, and what the code does with such a number.
+-- What the code does with a number by which its tables name an entry of a row.
 use Prim.Native.Nat.{ℕ}
 use mathlib.Core.Bool.{Bool, true, cond, _&&_}
 use lib.Dec.{ltb, eqb}
@@ -6,42 +6,14 @@ use Rattle.machine.specs.declared.Instruction.{Instruction}
 use Rattle.machine.specs.declared.Decoded.{Decoded}
 use Rattle.machine.specs.declared.Executed.{Executed}
 use Rattle.machine.specs.Words.{sum, difference}
-use Rattle.machine.specs.Table.{rowOf, RegisterByte, noByte, bothNamed, onlyB, onlyA, Which, none, rA, rB, rsp, Computes, nothing, bOpA, justA, justC, bPlusC, bLess8, bPlus8, Accesses, noAccess, loadsAtE, loadsAtA, storesA, storesNext}
+use Rattle.machine.specs.Table.{rowOf}
 use Rattle.machine.specs.Stages.{operated}
-
-unfoldable pub byteNumber : RegisterByte → ℕ
-byteNumber noByte = 0
-byteNumber bothNamed = 1
-byteNumber onlyB = 2
-byteNumber onlyA = 3
-
-unfoldable pub whichNumber : Which → ℕ
-whichNumber none = 0
-whichNumber rA = 1
-whichNumber rB = 2
-whichNumber rsp = 3
-
-unfoldable pub computesNumber : Computes → ℕ
-computesNumber nothing = 0
-computesNumber bOpA = 1
-computesNumber justA = 2
-computesNumber justC = 3
-computesNumber bPlusC = 4
-computesNumber bLess8 = 5
-computesNumber bPlus8 = 6
-
-unfoldable pub accessesNumber : Accesses → ℕ
-accessesNumber noAccess = 0
-accessesNumber loadsAtE = 1
-accessesNumber loadsAtA = 2
-accessesNumber storesA = 3
-accessesNumber storesNext = 4
+use Rattle.rows.specs.Numbers.{accessesNumber}
 
 -- the number of an executed instruction's access, which is read once and handed on
 abbrev pub accessKind : Executed → ℕ
 accessKind x = accessesNumber (rowOf (x .instruction .code) .accesses)
 
--- the decisions over such a number
 unfoldable pub halvesFitBy : ℕ → ℕ → ℕ → Bool
 halvesFitBy k a b = cond (eqb k 1) (ltb a 15 && ltb b 15) (cond (eqb k 2) (eqb a 15 && ltb b 15) (cond (eqb k 3) (ltb a 15 && eqb b 15) true))
 
