@@ -1,23 +1,14 @@
 -- What the numbers of the constant tables decide is what the rows say. Assumes nothing.
 use mathlib.Core.Path.{_≡_, refl}
 use mathlib.Core.Bool.{not, _||_, cond}
-use Prim.Native.Nat.{ℕ}
 use lib.Dec.{eqb}
 use Rattle.machine.specs.declared.Instruction.{Instruction}
 use Rattle.machine.specs.declared.Decoded.{Decoded}
 use Rattle.machine.specs.declared.Executed.{Executed}
-use Rattle.machine.specs.Table.{RegisterByte, noByte, bothNamed, onlyB, onlyA, Which, none, rA, rB, rsp, Computes, nothing, bOpA, justA, justC, bPlusC, bLess8, bPlus8, Accesses, noAccess, loadsAtE, loadsAtA, storesA, storesNext}
-use Rattle.machine.specs.Fetch.{halvesFit}
+use Rattle.machine.specs.Table.{Which, none, rA, rB, rsp, Computes, nothing, bOpA, justA, justC, bPlusC, bLess8, bPlus8, Accesses, noAccess, loadsAtE, loadsAtA, storesA, storesNext}
 use Rattle.machine.specs.Stages.{register, computed, loading, storing, addressed, stored}
-use Rattle.rows.specs.Numbers.{byteNumber, whichNumber, computesNumber, accessesNumber}
-use Rattle.isa.specs.Decisions.{halvesFitBy, registerBy, computedBy}
-
-pub fits-by : (y : RegisterByte) (a b : ℕ) → halvesFitBy (byteNumber y) a b ≡ halvesFit y a b
-unfolding halvesFitBy byteNumber halvesFit
-fits-by noByte a b = refl
-fits-by bothNamed a b = refl
-fits-by onlyB a b = refl
-fits-by onlyA a b = refl
+use Rattle.rows.specs.Numbers.{whichNumber, computesNumber, accessesNumber}
+use Rattle.isa.specs.Decisions.{registerBy, computedBy}
 
 pub register-by : (w : Which) (i : Instruction) → registerBy (whichNumber w) i ≡ register w i
 unfolding registerBy whichNumber register

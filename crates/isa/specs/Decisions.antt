@@ -1,7 +1,7 @@
 -- What the code does with a number by which its tables name an entry of a row.
 use Prim.Native.Nat.{ℕ}
-use mathlib.Core.Bool.{Bool, true, cond, _&&_}
-use lib.Dec.{ltb, eqb}
+use mathlib.Core.Bool.{cond}
+use lib.Dec.{eqb}
 use Rattle.machine.specs.declared.Instruction.{Instruction}
 use Rattle.machine.specs.declared.Decoded.{Decoded}
 use Rattle.machine.specs.declared.Executed.{Executed}
@@ -13,9 +13,6 @@ use Rattle.rows.specs.Numbers.{accessesNumber}
 -- the number of an executed instruction's access, which is read once and handed on
 abbrev pub accessKind : Executed → ℕ
 accessKind x = accessesNumber (rowOf (x .instruction .code) .accesses)
-
-unfoldable pub halvesFitBy : ℕ → ℕ → ℕ → Bool
-halvesFitBy k a b = cond (eqb k 1) (ltb a 15 && ltb b 15) (cond (eqb k 2) (eqb a 15 && ltb b 15) (cond (eqb k 3) (ltb a 15 && eqb b 15) true))
 
 unfoldable pub registerBy : ℕ → Instruction → ℕ
 registerBy k i = cond (eqb k 1) (i .ra) (cond (eqb k 2) (i .rb) (cond (eqb k 3) 4 15))

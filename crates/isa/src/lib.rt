@@ -1,5 +1,4 @@
-// The instruction set: fetch and the work of each stage, for both engines.
+// The instruction set: the work of the stages behind fetch, for both engines.
 pub mod accessing;
 pub mod decoding;
 pub mod executing;
-pub mod fetching;

@@ -11,7 +11,7 @@ ghost use lib.Dec.{eqb, ltb};
 ghost use lib.ListN.{length, getD};
 ghost use Rattle.machine.specs.Words.{number};
 ghost use Rattle.machine.specs.Fetch.{fetch as fetchOf, stopping as stoppingOf};
-ghost use Rattle.isa.specs.Decisions.{halvesFitBy};
+ghost use Rattle.fetching.specs.Halves.{halvesFitBy};
 
 // An instruction fetched with a bad status travels as a nop with that status.
 fn stopping(address: u64, status: Status) -> Instruction

@@ -1,7 +1,7 @@
 use borrow.Author.Tests.{ne-eqb}
-use Rattle.isa.specs.Decisions.{halvesFitBy}
-use Rattle.isa.proofs.fetching.halves_fit.Statement.{statement}
-use Rattle.isa.proofs.fetching.halves_fit.Tie as tie
+use Rattle.fetching.specs.Halves.{halvesFitBy}
+use Rattle.fetching.proofs.halves_fit.Statement.{statement}
+use Rattle.fetching.proofs.halves_fit.Tie as tie
 
 returns : tie.Need-returns
 unfolding halvesFitBy

@@ -1,11 +1,11 @@
-use Rattle.isa.proofs.Parse.{room, outside, no-function, cut-short, misnamed, halts, fetches, second}
+use Rattle.fetching.proofs.Parse.{room, outside, no-function, cut-short, misnamed, halts, fetches, second}
 use Prim.Native.Nat.{_-_}
 use lib.ListN.{length}
 use mathlib.Core.Path.{_∙_}
 use native.Mathlib.Omega.{arith}
 use borrow.Author.Needs.{needs}
-use Rattle.isa.proofs.fetching.fetch.Statement.{statement}
-use Rattle.isa.proofs.fetching.fetch.Tie as tie
+use Rattle.fetching.proofs.fetch.Statement.{statement}
+use Rattle.fetching.proofs.fetch.Tie as tie
 
 stopping-requires : tie.Need-stopping-requires
 stopping-requires c κs = search needs

@@ -1,7 +1,7 @@
 use borrow.Author.Tests.{eq-eqb, ne-eqb}
 use native.Mathlib.Omega.{arith}
-use Rattle.isa.proofs.fetching.register_byte.Statement.{statement}
-use Rattle.isa.proofs.fetching.register_byte.Tie as tie
+use Rattle.fetching.proofs.register_byte.Statement.{statement}
+use Rattle.fetching.proofs.register_byte.Tie as tie
 
 returns : tie.Need-returns
 returns c = rw (eq-eqb _ _ (c .if1 .taken))

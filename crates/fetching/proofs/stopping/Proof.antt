@@ -1,7 +1,7 @@
 use Rattle.machine.specs.Fetch.{stopping}
 use mathlib.Core.Path.{refl}
-use Rattle.isa.proofs.fetching.stopping.Statement.{statement}
-use Rattle.isa.proofs.fetching.stopping.Tie as tie
+use Rattle.fetching.proofs.stopping.Statement.{statement}
+use Rattle.fetching.proofs.stopping.Tie as tie
 
 returns : tie.Need-returns
 unfolding stopping

@@ -1,7 +1,7 @@
-use Rattle.isa.proofs.Parse.{constant-there, no-constant}
+use Rattle.fetching.proofs.Parse.{constant-there, no-constant}
 use borrow.Author.Needs.{needs}
-use Rattle.isa.proofs.fetching.constant_of.Statement.{statement}
-use Rattle.isa.proofs.fetching.constant_of.Tie as tie
+use Rattle.fetching.proofs.constant_of.Statement.{statement}
+use Rattle.fetching.proofs.constant_of.Tie as tie
 
 sub-load : tie.Need-sub-load
 sub-load c = search needs

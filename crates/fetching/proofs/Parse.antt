@@ -15,8 +15,7 @@ use Rattle.machine.specs.Fetch.{stopping, halvesFit, half, checked, fetch}
 use Rattle.columns.specs.Lengths.{hasByte, length-rule, two}
 use Rattle.columns.specs.Fetching.{aokAt, fetch-is}
 use Rattle.rows.specs.Numbers.{byteNumber}
-use Rattle.isa.specs.Decisions.{halvesFitBy}
-use Rattle.isa.proofs.Entries.{fits-by}
+use Rattle.fetching.specs.Halves.{halvesFitBy}
 
 abbrev codeAt : Memory → ℕ → ℕ
 codeAt m a = getD m a 0 / 16
@@ -35,6 +34,13 @@ low noByte x = refl
 low bothNamed x = refl
 low onlyB x = refl
 low onlyA x = refl
+
+fits-by : (y : RegisterByte) (a b : ℕ) → halvesFitBy (byteNumber y) a b ≡ halvesFit y a b
+unfolding halvesFitBy byteNumber halvesFit
+fits-by noByte a b = refl
+fits-by bothNamed a b = refl
+fits-by onlyB a b = refl
+fits-by onlyA a b = refl
 
 named : (y : RegisterByte) → (byteNumber y ≡ 0 → ⊥) → T (hasByte y)
 unfolding byteNumber hasByte
