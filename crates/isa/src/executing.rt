@@ -57,7 +57,7 @@ pub fn new_codes(x: Decoded, codes: Codes) -> Codes
 }
 
 // The condition is a decision over the seven function numbers.
-pub fn condition(function: u8, c: Codes) -> bool
+fn condition(function: u8, c: Codes) -> bool
     ensures { λ r. ⌜ r ≡ conditionOf function c ⌝ }
 {
     let ge = c.sf == c.of;

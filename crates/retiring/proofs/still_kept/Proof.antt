@@ -1,7 +1,7 @@
-use Rattle.stage.proofs.Ways.{kept-afresh}
+use Rattle.retiring.proofs.Ways.{kept-afresh}
 use borrow.Author.Needs.{needs}
-use Rattle.stage.proofs.retiring.still_kept.Statement.{statement}
-use Rattle.stage.proofs.retiring.still_kept.Tie as tie
+use Rattle.retiring.proofs.still_kept.Statement.{statement}
+use Rattle.retiring.proofs.still_kept.Tie as tie
 
 enum-told : tie.Need-enum-told
 enum-told c = search needs

@@ -1,7 +1,4 @@
 // Retirement: the counts, the last address, the charges by kind, and the instruction kept for its follower's charge.
-use crate::controls::afresh;
-use crate::signals::meets_either;
-use crate::signals::mispredicted;
 use isa::decoding::is_bad;
 use isa::decoding::loaded_target;
 use isa::decoding::source_a;
@@ -13,11 +10,14 @@ use machine::Kinds;
 use machine::Retired;
 use machine::StageW;
 use machine::Status;
+use stage::controls::afresh;
+use stage::signals::meets_either;
+use stage::signals::mispredicted;
 ghost use mathlib.Core.Path.{_≡_};
 ghost use Prim.Native.Nat.{_<_};
 ghost use Rattle.machine.specs.Prediction.{asIn01};
 ghost use Rattle.machine.specs.Charges.{amount, reasonBehind, reasonFrom};
-ghost use Rattle.stage.specs.Retiring.{countedBy, keptBy, retires as retiresOf, statusAfter, tallyAfter, Small};
+ghost use Rattle.retiring.specs.Retiring.{countedBy, keptBy, retires as retiresOf, statusAfter, tallyAfter, Small};
 
 // What a clock counts, and what it is counted by.
 pub struct Tally {

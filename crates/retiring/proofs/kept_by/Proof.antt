@@ -1,7 +1,7 @@
-use Rattle.stage.proofs.Ways.{keeps, kept-now}
+use Rattle.retiring.proofs.Ways.{keeps, kept-now}
 use borrow.Author.Needs.{needs}
-use Rattle.stage.proofs.retiring.kept_by.Statement.{statement}
-use Rattle.stage.proofs.retiring.kept_by.Tie as tie
+use Rattle.retiring.proofs.kept_by.Statement.{statement}
+use Rattle.retiring.proofs.kept_by.Tie as tie
 
 is-bad-requires : tie.Need-is-bad-requires
 is-bad-requires c κs = search needs

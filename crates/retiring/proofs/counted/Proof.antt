@@ -1,7 +1,7 @@
-use Rattle.stage.proofs.Ways.{only-a-cycle, one-retired}
+use Rattle.retiring.proofs.Ways.{only-a-cycle, one-retired}
 use borrow.Author.Needs.{needs}
-use Rattle.stage.proofs.retiring.counted.Statement.{statement}
-use Rattle.stage.proofs.retiring.counted.Tie as tie
+use Rattle.retiring.proofs.counted.Statement.{statement}
+use Rattle.retiring.proofs.counted.Tie as tie
 
 enum-told : tie.Need-enum-told
 enum-told c = search needs

@@ -1,7 +1,7 @@
-use Rattle.stage.proofs.Ways.{uncharged, charged}
+use Rattle.retiring.proofs.Ways.{uncharged, charged}
 use borrow.Author.Needs.{needs}
-use Rattle.stage.proofs.retiring.charge_from.Statement.{statement}
-use Rattle.stage.proofs.retiring.charge_from.Tie as tie
+use Rattle.retiring.proofs.charge_from.Statement.{statement}
+use Rattle.retiring.proofs.charge_from.Tie as tie
 
 enum-told : tie.Need-enum-told
 enum-told c = search needs

@@ -1,8 +1,8 @@
-use Rattle.stage.specs.Retiring.{countedBy}
+use Rattle.retiring.specs.Retiring.{countedBy}
 use borrow.Author.Tests.{ne-eqb}
 use borrow.Author.Needs.{needs}
-use Rattle.stage.proofs.retiring.count.Statement.{statement}
-use Rattle.stage.proofs.retiring.count.Tie as tie
+use Rattle.retiring.proofs.count.Statement.{statement}
+use Rattle.retiring.proofs.count.Tie as tie
 
 add-t4 : tie.Need-add-t4
 add-t4 c = search needs

@@ -1,7 +1,7 @@
-use Rattle.stage.proofs.Ways.{loaded-before, jumped-before, returned-before, nothing-before}
+use Rattle.retiring.proofs.Ways.{loaded-before, jumped-before, returned-before, nothing-before}
 use borrow.Author.Needs.{needs}
-use Rattle.stage.proofs.retiring.charge_behind.Statement.{statement}
-use Rattle.stage.proofs.retiring.charge_behind.Tie as tie
+use Rattle.retiring.proofs.charge_behind.Statement.{statement}
+use Rattle.retiring.proofs.charge_behind.Tie as tie
 
 loaded-target-requires : tie.Need-loaded-target-requires
 loaded-target-requires c κs = search needs

@@ -1,7 +1,7 @@
-use Rattle.stage.proofs.Ways.{none-retires, one-retires}
+use Rattle.retiring.proofs.Ways.{none-retires, one-retires}
 use borrow.Author.Needs.{needs}
-use Rattle.stage.proofs.retiring.retires.Statement.{statement}
-use Rattle.stage.proofs.retiring.retires.Tie as tie
+use Rattle.retiring.proofs.retires.Statement.{statement}
+use Rattle.retiring.proofs.retires.Tie as tie
 
 enum-told : tie.Need-enum-told
 enum-told c = search needs

@@ -1,7 +1,7 @@
-use Rattle.stage.proofs.Ways.{status-stays, status-of-w}
+use Rattle.retiring.proofs.Ways.{status-stays, status-of-w}
 use borrow.Author.Needs.{needs}
-use Rattle.stage.proofs.retiring.status_after.Statement.{statement}
-use Rattle.stage.proofs.retiring.status_after.Tie as tie
+use Rattle.retiring.proofs.status_after.Statement.{statement}
+use Rattle.retiring.proofs.status_after.Tie as tie
 
 enum-told : tie.Need-enum-told
 enum-told c = search needs
