@@ -1,5 +1,5 @@
 // One clock of the stages: what stands in F to W, and the codes, with registers and memory beside them.
-use isa::fetching::fetch;
+use fetching::fetch;
 use machine::Codes;
 use machine::Instruction;
 use machine::StageD;

@@ -1,40 +1,14 @@
 -- What the numbers of the constant tables decide is what the rows say. Assumes nothing.
-use mathlib.Core.Path.{_≡_, refl, ap, sym, _∙_}
+use mathlib.Core.Path.{_≡_, refl}
 use mathlib.Core.Bool.{not, _||_, cond}
-use mathlib.Core.List.{List, [], _∷_, map}
-use Prim.Native.Nat.{ℕ, zero, suc, _≤_, _<_}
-use native.Mathlib.Omega.{arith}
 use lib.Dec.{eqb}
-use lib.ListN.{length, getD, List·getD-map, List·getD-eq-default}
 use Rattle.machine.specs.declared.Instruction.{Instruction}
 use Rattle.machine.specs.declared.Decoded.{Decoded}
 use Rattle.machine.specs.declared.Executed.{Executed}
-use Rattle.machine.specs.Table.{Row, noRow, table, rowOf, RegisterByte, noByte, bothNamed, onlyB, onlyA, Which, none, rA, rB, rsp, Computes, nothing, bOpA, justA, justC, bPlusC, bLess8, bPlus8, Accesses, noAccess, loadsAtE, loadsAtA, storesA, storesNext}
-use Rattle.machine.specs.Fetch.{halvesFit}
+use Rattle.machine.specs.Table.{Which, none, rA, rB, rsp, Computes, nothing, bOpA, justA, justC, bPlusC, bLess8, bPlus8, Accesses, noAccess, loadsAtE, loadsAtA, storesA, storesNext}
 use Rattle.machine.specs.Stages.{register, computed, loading, storing, addressed, stored}
-use Rattle.isa.specs.Numbers.{byteNumber, whichNumber, computesNumber, accessesNumber, halvesFitBy, registerBy, computedBy}
-
--- an entry that is there does not depend on the default
-there : (l : List ℕ) (k d d′ : ℕ) → k < length l → getD l k d ≡ getD l k d′
-there [] k d d′ h = absurd (omega arith)
-there (x ∷ l) zero d d′ h = refl
-there (x ∷ l) (suc k) d d′ h = there l k d d′ (omega arith)
-
--- a column of the table, at the code of a row and at any other
-pub column-in : (f : Row → ℕ) (code : ℕ) → code < 16 → getD (map f table) code 0 ≡ f (rowOf code)
-unfolding rowOf table
-column-in f code h = there (map f table) code 0 (f noRow) h ∙ List·getD-map f table code noRow
-
-pub column-out : (f : Row → ℕ) (code : ℕ) → 16 ≤ code → f noRow ≡ f (rowOf code)
-unfolding rowOf table
-column-out f code h = ap f (sym (List·getD-eq-default table noRow h))
-
-pub fits-by : (y : RegisterByte) (a b : ℕ) → halvesFitBy (byteNumber y) a b ≡ halvesFit y a b
-unfolding halvesFitBy byteNumber halvesFit
-fits-by noByte a b = refl
-fits-by bothNamed a b = refl
-fits-by onlyB a b = refl
-fits-by onlyA a b = refl
+use Rattle.rows.specs.Numbers.{whichNumber, computesNumber, accessesNumber}
+use Rattle.isa.specs.Decisions.{registerBy, computedBy}
 
 pub register-by : (w : Which) (i : Instruction) → registerBy (whichNumber w) i ≡ register w i
 unfolding registerBy whichNumber register

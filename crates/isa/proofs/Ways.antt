@@ -20,10 +20,11 @@ use Rattle.machine.specs.declared.Executed.{Executed}
 use Rattle.machine.specs.declared.Accessed.{Accessed}
 use Rattle.machine.specs.Types.{isBad}
 use Rattle.machine.specs.Words.{sum, difference, signed, outside}
-use Rattle.machine.specs.Memory.{Memory, Registers, inside, load, store, written}
+use Rattle.machine.specs.Memory.{Memory, inside, load, store}
 use Rattle.machine.specs.Table.{rowOf, is}
 use Rattle.machine.specs.Stages.{sourceA, sourceB, resultTarget, loadedTarget, operated, overflows, operatedCodes, newCodes, condition, result, outcome, execute, loads, stores, accessAddress, storedWord, accessStatus, access, newMemory, turned, straight, nextAddress}
-use Rattle.isa.specs.Numbers.{whichNumber, computesNumber, accessKind, registerBy, computedBy}
+use Rattle.rows.specs.Numbers.{whichNumber, computesNumber}
+use Rattle.isa.specs.Decisions.{accessKind, registerBy, computedBy}
 use Rattle.isa.proofs.Entries.{register-by, computed-by, loads-by, stores-by, accesses-by, addressed-by, stored-by}
 
 pub missing : {A : Type 0} (l : List A) (k : ℕ) (d : A) → length l ≤ k → d ≡ getD l k d

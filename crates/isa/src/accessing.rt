@@ -1,13 +1,13 @@
 // The memory stage. The table is read once for an access, and its number handed on.
-use crate::rows::accesses_of;
 use machine::Accessed;
 use machine::Executed;
 use machine::Status;
+use rows::accesses_of;
 ghost use mathlib.Core.Path.{_≡_};
 ghost use mathlib.Core.Bool.{cond};
 ghost use Rattle.machine.specs.Memory.{load as loadOf};
 ghost use Rattle.machine.specs.Stages.{loads, accessAddress, storedWord, accessStatus, access as accessOf, newMemory};
-ghost use Rattle.isa.specs.Numbers.{accessKind};
+ghost use Rattle.isa.specs.Decisions.{accessKind};
 
 // popq and ret load from the old rsp.
 fn access_address(kind: u8, x: Executed) -> u64

@@ -1,15 +1,15 @@
 // Sources, targets, and the register file.
-use crate::rows::a_from;
-use crate::rows::b_from;
-use crate::rows::loaded_of;
-use crate::rows::target_of;
 use machine::Instruction;
 use machine::Status;
+use rows::a_from;
+use rows::b_from;
+use rows::loaded_of;
+use rows::target_of;
 ghost use mathlib.Core.Path.{_≡_};
 ghost use Rattle.machine.specs.Types.{isBad};
 ghost use Rattle.machine.specs.Memory.{value as valueOf, written as writtenOf};
 ghost use Rattle.machine.specs.Stages.{sourceA, sourceB, resultTarget, loadedTarget};
-ghost use Rattle.isa.specs.Numbers.{registerBy};
+ghost use Rattle.isa.specs.Decisions.{registerBy};
 
 pub fn is_bad(status: Status) -> bool
     ensures { λ r. ⌜ r ≡ isBad status ⌝ }

@@ -1,13 +1,13 @@
 // Execute: arithmetic with codes, conditions, and where an instruction leads.
-use crate::rows::computes_of;
 use machine::Accessed;
 use machine::Codes;
 use machine::Decoded;
 use machine::Executed;
 use machine::Instruction;
+use rows::computes_of;
 ghost use mathlib.Core.Path.{_≡_};
 ghost use Rattle.machine.specs.Stages.{operated as operatedOf, overflows as overflowsOf, operatedCodes, newCodes, condition as conditionOf, result as resultOf, outcome as outcomeOf, execute as executeOf, turned as turnedOf, straight as straightOf, nextAddress};
-ghost use Rattle.isa.specs.Numbers.{computedBy};
+ghost use Rattle.isa.specs.Decisions.{computedBy};
 
 // rB add, subtract, and, xor rA.
 fn operated(function: u8, a: u64, b: u64) -> u64
@@ -57,7 +57,7 @@ pub fn new_codes(x: Decoded, codes: Codes) -> Codes
 }
 
 // The condition is a decision over the seven function numbers.
-pub fn condition(function: u8, c: Codes) -> bool
+fn condition(function: u8, c: Codes) -> bool
     ensures { λ r. ⌜ r ≡ conditionOf function c ⌝ }
 {
     let ge = c.sf == c.of;

@@ -1,6 +1,4 @@
-// The instruction set: the table, fetch, and the work of each stage, for both engines.
+// The instruction set: the work of the stages behind fetch, for both engines.
 pub mod accessing;
 pub mod decoding;
 pub mod executing;
-pub mod fetching;
-pub mod rows;

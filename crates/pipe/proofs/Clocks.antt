@@ -14,8 +14,8 @@ use Rattle.machine.specs.Types.{isBad}
 use Rattle.machine.specs.Memory.{Memory, Registers}
 use Rattle.machine.specs.Prediction.{asIn01}
 use Rattle.machine.specs.Pipeline.{Piped, afterE, afterM, source, sourceM, sourceW, decodedD, badInW, memoryAfter, registersAfter, lastAfter, retiredAfter, kindsAfter, logged, advanced, stoppedIn, clockBy, clock, waits, mispredicts, returns, fails, fetchAddress, fetchedNow, nextF, nextD, nextE, nextM, nextCodes}
-use Rattle.stage.specs.Retiring.{statusAfter, tallyAfter}
-use Rattle.stage.specs.declared.retiring.Tally.{Tally}
+use Rattle.retiring.specs.Retiring.{statusAfter, tallyAfter}
+use Rattle.retiring.specs.declared.Tally.{Tally}
 use Rattle.flow.specs.declared.Flow.{Flow}
 use Rattle.flow.specs.Moving.{signalsWith, signalsOf, fetchedIn, sourceIn, decodedIn, shiftedOf, flowAfter}
 use Rattle.pipe.specs.Parts.{whole}

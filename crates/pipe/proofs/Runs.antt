@@ -24,8 +24,8 @@ use Rattle.machine.specs.Prediction.{Settings, asIn01}
 use Rattle.machine.specs.Charges.{Reason, free, waited, wronglyGuessed, returned, counted, reasonFrom}
 use Rattle.machine.specs.Pipeline.{Piped, pipedOf, badInW, memoryAfter, registersAfter, retiredAfter, kindsAfter, logged, clock, clocks}
 use Rattle.machine.specs.Runs.{laid, countsRefused, PipeAnswer, pipeAnswer, pipeDone}
-use Rattle.stage.specs.declared.retiring.Tally.{Tally}
-use Rattle.stage.specs.Retiring.{Small, retires, statusAfter, tallyAfter}
+use Rattle.retiring.specs.declared.Tally.{Tally}
+use Rattle.retiring.specs.Retiring.{Small, retires, statusAfter, tallyAfter}
 use Rattle.flow.specs.declared.Flow.{Flow}
 use Rattle.flow.specs.Moving.{aheadOf, shiftedOf, flowAfter}
 use Rattle.pipe.specs.Parts.{flowOf, tallyOf, whole, noted}

@@ -12,7 +12,7 @@ use Rattle.machine.specs.Pipeline.{pipedOf, clocks}
 use Rattle.machine.specs.Runs.{sizeRefused, budgetRefused, recordRefused, pipeLimit, lowest, PipeAnswer, pipeAnswer, pipeDone}
 use Rattle.flow.specs.declared.Flow.{Flow}
 use Rattle.flow.specs.Moving.{aheadOf}
-use Rattle.stage.specs.declared.retiring.Tally.{Tally}
+use Rattle.retiring.specs.declared.Tally.{Tally}
 
 -- THE RECORD
 unfoldable pub flowOf : Pipeline → Flow

@@ -1,4 +1,5 @@
 // The plain engine: one instruction at a time.
+use fetching::fetch;
 use isa::accessing::access;
 use isa::accessing::update;
 use isa::decoding::is_bad;
@@ -10,7 +11,6 @@ use isa::decoding::value;
 use isa::executing::execute;
 use isa::executing::new_codes;
 use isa::executing::next_address;
-use isa::fetching::fetch;
 use machine::Accessed;
 use machine::Codes;
 use machine::Decoded;

@@ -1,23 +1,20 @@
 -- One law for each way out of a function, over variables for what its callees gave. Assumes nothing.
 use mathlib.Core.Path.{_≡_, refl}
 use mathlib.Core.Bool.{Bool, true, false, cond, not, _&&_, _||_}
-use Prim.Native.Nat.{ℕ, _+_, _≤_, _<_}
+use Prim.Native.Nat.{ℕ, _≤_, _<_}
 use lib.Dec.{eqb, ltb}
 use lib.ListN.{getD}
 use borrow.Author.Tests.{lt-ltb, le-ltb, eq-eqb, ne-eqb}
-use Rattle.stage.specs.Types.{aok, Codes, Instruction, Decoded, Executed, Accessed, Retired, StageD, bubbleD, inD, StageE, bubbleE, inE, StageM, bubbleM, inM, StageW, bubbleW, inW, Kept, noneKept, lastKept, Kinds}
+use Rattle.stage.specs.Types.{Codes, Instruction, Decoded, Executed, Accessed, StageD, bubbleD, inD, StageE, bubbleE, inE, StageM, bubbleM, inM, StageW, bubbleW, inW}
 use Rattle.machine.specs.Types.{isBad}
 use Rattle.machine.specs.Memory.{Memory, Registers, value, written}
 use Rattle.machine.specs.Table.{is}
-use Rattle.machine.specs.Stages.{decode, execute, access, newCodes, newMemory, newRegisters, sourceA, sourceB, resultTarget, loadedTarget, turned, straight}
-use Rattle.machine.specs.Prediction.{asIn01, guess, predictedNext, mispredicted, meets, loadUse}
-use Rattle.machine.specs.Charges.{Reason, free, waited, wronglyGuessed, returned, amount, reasonBehind, reasonFrom, counted, retiredOf}
-use Rattle.machine.specs.Pipeline.{afterE, afterM, codesAfter, memoryAfter, registersAfter, waitsBehind, wrong, retInD, retInE, retInM, badInW, returnedTo, mended, lastAfter, retiredAfter, kindsAfter, keptAfter}
+use Rattle.machine.specs.Stages.{execute, access, newCodes, newMemory, sourceA, sourceB, resultTarget, loadedTarget, turned, straight}
+use Rattle.machine.specs.Prediction.{asIn01, guess, predictedNext, mispredicted, meets}
+use Rattle.machine.specs.Pipeline.{afterE, afterM, codesAfter, memoryAfter, wrong, retInD, retInE, retInM, badInW, returnedTo, mended}
 use Rattle.stage.specs.declared.forwarding.Targets.{Targets}
 use Rattle.stage.specs.declared.forwarding.Sources.{Sources}
-use Rattle.stage.specs.declared.retiring.Tally.{Tally}
 use Rattle.stage.specs.Forwarding.{noTargets, targetsM, targetsW, sourcesD, resultM, resultW, wordW, writtenBy, sourceBy, decodedBy}
-use Rattle.stage.specs.Retiring.{countedBy, keptBy, retires, statusAfter, tallyAfter}
 
 -- THE WORK OF A STAGE
 pub e-bubble : (e : StageE) (c : Codes) → e ≡ bubbleE → bubbleM ≡ afterE e c
@@ -230,78 +227,6 @@ jump-next i v h p = cc (eq-eqb (i .code) 7 h)
 pub straight-next : (i : Instruction) (v : ℕ) → (i .code ≡ 7 → ⊥) → v ≡ straight i → v ≡ predictedNext asIn01 i
 unfolding predictedNext is
 straight-next i v h p = cc (ne-eqb (i .code) 7 h)
-
--- RETIREMENT
-module _ (k : Retired) (j : Instruction) (l a s : ℕ) (b c : Bool) (el : l ≡ loadedTarget (k .instruction)) (ea : a ≡ sourceA j) (es : s ≡ sourceB j) (eb : b ≡ (meets l a || meets l s)) where
-  pub loaded-before : b ≡ true → 1 ≡ amount (reasonBehind asIn01 k j)
-  unfolding reasonBehind amount loadUse
-  loaded-before h = cc
-
-  module _ (h : b ≡ false) (ec : c ≡ mispredicted asIn01 (k .instruction) (k .holds)) where
-    pub jumped-before : c && not (eqb (k .instruction .function) 0) ≡ true → 2 ≡ amount (reasonBehind asIn01 k j)
-    unfolding reasonBehind amount loadUse
-    jumped-before t = cc
-
-    module _ (t : c && not (eqb (k .instruction .function) 0) ≡ false) where
-      pub returned-before : k .instruction .code ≡ 9 → 3 ≡ amount (reasonBehind asIn01 k j)
-      unfolding reasonBehind amount loadUse is
-      returned-before r = cc (eq-eqb (k .instruction .code) 9 r)
-
-      pub nothing-before : (k .instruction .code ≡ 9 → ⊥) → 0 ≡ amount (reasonBehind asIn01 k j)
-      unfolding reasonBehind amount loadUse is
-      nothing-before r = cc (ne-eqb (k .instruction .code) 9 r)
-
-pub uncharged : (k : Kept) (j : Instruction) → k ≡ noneKept → 0 ≡ amount (reasonFrom asIn01 k j)
-unfolding reasonFrom amount
-uncharged k j h = cc
-
-pub charged : (k : Kept) (j : Instruction) (x : Retired) (n : ℕ) → k ≡ lastKept x → n ≡ amount (reasonBehind asIn01 x j) → n ≡ amount (reasonFrom asIn01 k j)
-unfolding reasonFrom
-charged k j x n h p = cc
-
-pub keeps : (x : Accessed) (k l : Kept) (b : Bool) → b ≡ isBad (x .status) → b ≡ true → l ≡ k → l ≡ keptBy x k
-unfolding keptBy
-keeps x k l b e h p = cc
-
-pub kept-now : (x : Accessed) (k : Kept) (i : Instruction) (b : Bool) → b ≡ isBad (x .status) → b ≡ false → i ≡ x .instruction → lastKept (record { instruction = i; holds = x .holds }) ≡ keptBy x k
-unfolding keptBy retiredOf
-kept-now x k i b e h p = cc
-
-pub kept-afresh : (k : Kept) (r : Retired) (i : Instruction) → k ≡ lastKept r → i ≡ r .instruction → lastKept (record { instruction = i; holds = r .holds }) ≡ k
-kept-afresh k r i h p = rw (h, p)
-
--- an amount tells its reason
-counted-by : (t : Kinds) (r : Reason) → countedBy t (amount r) ≡ counted t r
-unfolding countedBy counted amount
-counted-by t free = refl
-counted-by t waited = refl
-counted-by t wronglyGuessed = refl
-counted-by t returned = refl
-
-pub only-a-cycle : (t : Tally) (w : StageW) (k : Kept) → w ≡ bubbleW → k ≡ t .kept → record { last = t .last; retired = t .retired; cycles = t .cycles + 1; kinds = t .kinds; kept = k } ≡ tallyAfter t w
-unfolding tallyAfter lastAfter retiredAfter kindsAfter keptAfter badInW
-only-a-cycle t w k h e = cc
-
-pub one-retired : (t : Tally) (w : StageW) (x : Accessed) (n : ℕ) (s : Kinds) (k : Kept) → w ≡ inW x → n ≡ amount (reasonFrom asIn01 (t .kept) (x .instruction)) → s ≡ countedBy (t .kinds) n → k ≡ keptBy x (t .kept)
-    → record { last = x .instruction .address; retired = t .retired + 1; cycles = t .cycles + 1; kinds = s; kept = k } ≡ tallyAfter t w
-unfolding tallyAfter lastAfter retiredAfter kindsAfter keptAfter badInW keptBy
-one-retired t w x n s k h p q u = cc (counted-by (t .kinds) (reasonFrom asIn01 (t .kept) (x .instruction)))
-
-pub none-retires : (w : StageW) → w ≡ bubbleW → false ≡ retires w
-unfolding retires
-none-retires w h = cc
-
-pub one-retires : (w : StageW) (x : Accessed) → w ≡ inW x → true ≡ retires w
-unfolding retires
-one-retires w x h = cc
-
-pub status-stays : (w : StageW) → w ≡ bubbleW → aok ≡ statusAfter w
-unfolding statusAfter
-status-stays w h = cc
-
-pub status-of-w : (w : StageW) (x : Accessed) → w ≡ inW x → x .status ≡ statusAfter w
-unfolding statusAfter
-status-of-w w x h = cc
 
 -- CONTROLS
 pub goes-on : {A : Type 0} (b : Bool) (x y v : A) → b ≡ false → v ≡ y → v ≡ cond b x y

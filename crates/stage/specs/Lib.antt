@@ -1,3 +1,2 @@
 pub mod Types
 pub mod Forwarding
-pub mod Retiring

@@ -1,12 +1,9 @@
--- machine's declared types under one roof.
-pub use Rattle.machine.specs.declared.Status.{Status}
-pub use Rattle.machine.specs.declared.Status.the-variants.{Aok as aok}
+-- machine's declared types that a stage works on, under one roof.
 pub use Rattle.machine.specs.declared.Codes.{Codes}
 pub use Rattle.machine.specs.declared.Instruction.{Instruction}
 pub use Rattle.machine.specs.declared.Decoded.{Decoded}
 pub use Rattle.machine.specs.declared.Executed.{Executed}
 pub use Rattle.machine.specs.declared.Accessed.{Accessed}
-pub use Rattle.machine.specs.declared.Retired.{Retired}
 pub use Rattle.machine.specs.declared.StageD.{StageD}
 pub use Rattle.machine.specs.declared.StageD.the-variants.{BubbleD as bubbleD, InD as inD}
 pub use Rattle.machine.specs.declared.StageE.{StageE}
@@ -15,6 +12,3 @@ pub use Rattle.machine.specs.declared.StageM.{StageM}
 pub use Rattle.machine.specs.declared.StageM.the-variants.{BubbleM as bubbleM, InM as inM}
 pub use Rattle.machine.specs.declared.StageW.{StageW}
 pub use Rattle.machine.specs.declared.StageW.the-variants.{BubbleW as bubbleW, InW as inW}
-pub use Rattle.machine.specs.declared.Kept.{Kept}
-pub use Rattle.machine.specs.declared.Kept.the-variants.{NoneKept as noneKept, LastKept as lastKept}
-pub use Rattle.machine.specs.declared.Kinds.{Kinds}

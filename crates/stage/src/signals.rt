@@ -11,7 +11,7 @@ ghost use Rattle.machine.specs.Prediction.{asIn01, meets as meetsOf, mispredict
 ghost use Rattle.machine.specs.Pipeline.{wrong as wrongOf, retInD, retInE, retInM, badInW};
 
 // Register 15 as a source matches nothing.
-pub fn meets(target: u8, source: u8) -> bool
+fn meets(target: u8, source: u8) -> bool
     ensures { λ r. ⌜ r ≡ meetsOf target source ⌝ }
 {
     (source < 15) & (target == source)

@@ -1,5 +1,5 @@
 use borrow.Author.Tests.{ne-eqb}
-use Rattle.isa.specs.Numbers.{registerBy}
+use Rattle.isa.specs.Decisions.{registerBy}
 use Rattle.isa.proofs.decoding.register.Statement.{statement}
 use Rattle.isa.proofs.decoding.register.Tie as tie
 

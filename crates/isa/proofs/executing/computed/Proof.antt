@@ -1,4 +1,4 @@
-use Rattle.isa.specs.Numbers.{computedBy}
+use Rattle.isa.specs.Decisions.{computedBy}
 use borrow.Author.Tests.{ne-eqb}
 use borrow.Author.Needs.{needs}
 use Rattle.isa.proofs.executing.computed.Statement.{statement}

@@ -1,5 +1,4 @@
 use Rattle.isa.proofs.Ways.{executed-is}
-use Rattle.machine.specs.Stages.{execute}
 use borrow.Author.Needs.{needs}
 use Rattle.isa.proofs.executing.execute.Statement.{statement}
 use Rattle.isa.proofs.executing.execute.Tie as tie

@@ -1,5 +1,4 @@
 use Rattle.isa.proofs.Ways.{tested, untested}
-use Rattle.machine.specs.Stages.{outcome}
 use borrow.Author.Needs.{needs}
 use Rattle.isa.proofs.executing.outcome.Statement.{statement}
 use Rattle.isa.proofs.executing.outcome.Tie as tie

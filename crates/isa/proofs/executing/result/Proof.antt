@@ -1,5 +1,4 @@
 use Rattle.isa.proofs.Ways.{result-is}
-use Rattle.machine.specs.Stages.{result}
 use borrow.Author.Needs.{needs}
 use Rattle.isa.proofs.executing.result.Statement.{statement}
 use Rattle.isa.proofs.executing.result.Tie as tie

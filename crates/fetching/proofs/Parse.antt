@@ -1,0 +1,119 @@
+-- Fetch: one law for each of the checks, in their order. Assumes nothing.
+use mathlib.Core.Path.{_≡_, refl, ap, _∙_}
+use mathlib.Core.Bool.{Bool, true, false, cond, not}
+use Prim.Native.Nat.{ℕ, _+_, _-_, _/_, _%_, _≤_, _<_}
+use native.Mathlib.Omega.{arith}
+use borrow.Author.Tests.{eq-eqb, ne-eqb, lt-ltb, le-ltb, le-leb, lt-leb, ltb-true, ltb-false, leb-true, leb-false, not-true, not-false}
+use lib.Dec.{T, eqb, ltb, leb}
+use lib.ListN.{length, getD}
+use Rattle.machine.specs.declared.Status.the-variants.{Aok as aok, Hlt as hlt, Adr as adr, Ins as ins}
+use Rattle.machine.specs.declared.Instruction.{Instruction}
+use Rattle.machine.specs.Words.{sum, number}
+use Rattle.machine.specs.Memory.{Memory, inside, load}
+use Rattle.machine.specs.Table.{rowOf, RegisterByte, noByte, bothNamed, onlyB, onlyA}
+use Rattle.machine.specs.Fetch.{stopping, halvesFit, half, checked, fetch}
+use Rattle.columns.specs.Lengths.{hasByte, length-rule, two}
+use Rattle.columns.specs.Fetching.{aokAt, fetch-is}
+use Rattle.rows.specs.Numbers.{byteNumber}
+use Rattle.fetching.specs.Halves.{halvesFitBy}
+
+abbrev codeAt : Memory → ℕ → ℕ
+codeAt m a = getD m a 0 / 16
+
+-- the halves of the byte as the code takes it: F:F where there is none
+high : (y : RegisterByte) (x : ℕ) → cond (eqb (byteNumber y) 0) 255 x / 16 ≡ half y (x / 16)
+unfolding byteNumber half
+high noByte x = refl
+high bothNamed x = refl
+high onlyB x = refl
+high onlyA x = refl
+
+low : (y : RegisterByte) (x : ℕ) → cond (eqb (byteNumber y) 0) 255 x % 16 ≡ half y (x % 16)
+unfolding byteNumber half
+low noByte x = refl
+low bothNamed x = refl
+low onlyB x = refl
+low onlyA x = refl
+
+fits-by : (y : RegisterByte) (a b : ℕ) → halvesFitBy (byteNumber y) a b ≡ halvesFit y a b
+unfolding halvesFitBy byteNumber halvesFit
+fits-by noByte a b = refl
+fits-by bothNamed a b = refl
+fits-by onlyB a b = refl
+fits-by onlyA a b = refl
+
+named : (y : RegisterByte) → (byteNumber y ≡ 0 → ⊥) → T (hasByte y)
+unfolding byteNumber hasByte
+named noByte h = absurd (h refl)
+named bothNamed h = tt
+named onlyB h = tt
+named onlyA h = tt
+
+-- an instruction with a register byte has a second byte
+pub second : (code : ℕ) → (byteNumber (rowOf code .byte) ≡ 0 → ⊥) → 2 ≤ rowOf code .size
+second code h = omega (arith, length-rule code, two (rowOf code) (named (rowOf code .byte) h))
+
+-- what the test of the length leaves
+pub room : (z l : ℕ) → not (leb z l) ≡ false → z ≤ l
+room z l h = leb-true z l (not-false (leb z l) h)
+
+-- THE WAYS OUT
+pub outside : (m : Memory) (a : ℕ) (r : Instruction) → length m ≤ a → r ≡ stopping a adr → r ≡ fetch m a
+unfolding checked aokAt
+outside m a r h e = cc (fetch-is m a, le-leb (length m) a h)
+
+module _ (m : Memory) (a f : ℕ) (h : a < length m) (ef : f ≡ rowOf (codeAt m a) .functions) where
+  pub no-function : (r : Instruction) → not (ltb (getD m a 0 % 16) f) ≡ true → r ≡ stopping a ins → r ≡ fetch m a
+  unfolding checked aokAt
+  no-function r p e = cc (fetch-is m a, lt-leb (length m) a h, le-leb f (getD m a 0 % 16) (ltb-false (getD m a 0 % 16) f (not-true _ p)))
+
+  module _ (z : ℕ) (p : not (ltb (getD m a 0 % 16) f) ≡ false) (ez : z ≡ rowOf (codeAt m a) .size) where
+    in-table : leb f (getD m a 0 % 16) ≡ false
+    in-table = lt-leb f (getD m a 0 % 16) (ltb-true (getD m a 0 % 16) f (not-false _ p))
+
+    pub cut-short : (r : Instruction) → not (leb z (length m - a)) ≡ true → r ≡ stopping a adr → r ≡ fetch m a
+    unfolding checked aokAt
+    cut-short r q e =
+        let short = leb-false z (length m - a) (not-true _ q) in
+        cc (fetch-is m a, lt-leb (length m) a h, in-table, lt-ltb (length m) (a + z) (omega arith))
+
+    module _ (y b : ℕ) (t : Bool) (q : not (leb z (length m - a)) ≡ false) (ey : y ≡ byteNumber (rowOf (codeAt m a) .byte)) (eb : b ≡ cond (eqb y 0) 255 (getD m (a + 1) 0)) (et : t ≡ halvesFitBy y (b / 16) (b % 16)) where
+      high-is : b / 16 ≡ aokAt m a (codeAt m a) .ra
+      unfolding aokAt
+      high-is = cc (high (rowOf (codeAt m a) .byte) (getD m (a + 1) 0))
+
+      low-is : b % 16 ≡ aokAt m a (codeAt m a) .rb
+      unfolding aokAt
+      low-is = cc (low (rowOf (codeAt m a) .byte) (getD m (a + 1) 0))
+
+      fit : not (halvesFit (rowOf (codeAt m a) .byte) (aokAt m a (codeAt m a) .ra) (aokAt m a (codeAt m a) .rb)) ≡ not t
+      fit = cc (fits-by (rowOf (codeAt m a) .byte) (b / 16) (b % 16), high-is, low-is)
+
+      long : ltb (length m) (a + rowOf (codeAt m a) .size) ≡ false
+      long = le-ltb (length m) (a + rowOf (codeAt m a) .size) (omega (arith, room z (length m - a) q))
+
+      -- the checks that are passed
+      through : fetch m a ≡ checked false false false (not t) (eqb (codeAt m a) 0) (aokAt m a (codeAt m a))
+      unfolding aokAt
+      through = fetch-is m a ∙ rw (lt-leb (length m) a h, ← ef, in-table, long) (ap (λ (x : Bool). checked false false false x (eqb (codeAt m a) 0) (aokAt m a (codeAt m a))) fit)
+
+      pub misnamed : (r : Instruction) → not t ≡ true → r ≡ stopping a ins → r ≡ fetch m a
+      unfolding checked aokAt
+      misnamed r k e = cc through
+
+      pub halts : (r : Instruction) → not t ≡ false → codeAt m a ≡ 0 → r ≡ stopping a hlt → r ≡ fetch m a
+      unfolding checked aokAt
+      halts r k o e = cc (through, eq-eqb (codeAt m a) 0 o)
+
+      pub fetches : (c n : ℕ) → not t ≡ false → (codeAt m a ≡ 0 → ⊥) → c ≡ cond (ltb 8 z) (number 8 m (a + (z - 8))) 0 → n ≡ sum a z
+          → record { address = a; status = aok; code = codeAt m a; function = getD m a 0 % 16; ra = b / 16; rb = b % 16; constant = c; next = n } ≡ fetch m a
+      unfolding checked aokAt
+      fetches c n k o ec en = cc (through, ne-eqb (codeAt m a) 0 o, high-is, low-is)
+
+-- THE CONSTANT, loaded from inside an instruction that is whole
+pub constant-there : (m : Memory) (at size c : ℕ) → at + size ≤ length m → 8 < size → c ≡ load m (at + (size - 8)) → c ≡ cond (ltb 8 size) (number 8 m (at + (size - 8))) 0
+unfolding load inside
+constant-there m at size c fits long e = cc (lt-ltb 8 size long, lt-ltb (at + (size - 8) + 7) (length m) (omega arith))
+
+pub no-constant : (m : Memory) (at size : ℕ) → size ≤ 8 → 0 ≡ cond (ltb 8 size) (number 8 m (at + (size - 8))) 0
+no-constant m at size short = cc (le-ltb 8 size short)

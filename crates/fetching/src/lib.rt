@@ -1,0 +1,107 @@
+// Fetch: document 01's checks in their order.
+use machine::Instruction;
+use machine::Status;
+use rows::byte_of;
+use rows::functions_of;
+use rows::size_of;
+ghost use mathlib.Core.Path.{_≡_};
+ghost use mathlib.Core.Bool.{cond};
+ghost use Prim.Native.Nat.{_+_, _-_, _≤_, _<_};
+ghost use lib.Dec.{eqb, ltb};
+ghost use lib.ListN.{length, getD};
+ghost use Rattle.machine.specs.Words.{number};
+ghost use Rattle.machine.specs.Fetch.{fetch as fetchOf, stopping as stoppingOf};
+ghost use Rattle.fetching.specs.Halves.{halvesFitBy};
+
+// An instruction fetched with a bad status travels as a nop with that status.
+fn stopping(address: u64, status: Status) -> Instruction
+    ensures { λ r. ⌜ r ≡ stoppingOf address status ⌝ }
+{
+    Instruction {
+        address,
+        status,
+        code: 1,
+        function: 0,
+        ra: 15,
+        rb: 15,
+        constant: 0,
+        next: address,
+    }
+}
+
+// Named registers are not 15, and fillers are F.
+fn halves_fit(byte: u8, a: u8, b: u8) -> bool
+    ensures { λ r. ⌜ r ≡ halvesFitBy byte a b ⌝ }
+{
+    match byte {
+        1 => (a < 15) & (b < 15),
+        2 => (a == 15) & (b < 15),
+        3 => (a < 15) & (b == 15),
+        _ => true,
+    }
+}
+
+// The register byte where there is one, else F:F, which names none.
+fn register_byte(memory: &[u8], at: usize, byte: u8) -> u8
+    requires { ⌜ ((byte ≡ 0 → ⊥) → at + 1 < length (now memory)) ⌝ }
+    ensures { λ r. ⌜ r ≡ cond (eqb byte 0) 255 (getD (now (memory .entry)) (at + 1) 0) ⌝ }
+{
+    if byte == 0 {
+        return 255;
+    }
+    memory[at + 1]
+}
+
+// The constant, the last eight bytes of an instruction that is longer than that.
+fn constant_of(memory: &[u8], at: usize, size: u8) -> u64
+    requires { ⌜ at + size ≤ length (now memory) ⌝ }
+    ensures { λ r. ⌜ r ≡ cond (ltb 8 size) (number 8 (now (memory .entry)) (at + (size - 8))) 0 ⌝ }
+{
+    if 8 < size {
+        word::load(memory, (at + (size - 8) as usize) as u64)
+    } else {
+        0
+    }
+}
+
+pub fn fetch(memory: &[u8], address: u64) -> Instruction
+    ensures { λ r. ⌜ r ≡ fetchOf (now (memory .entry)) address ⌝ }
+{
+    let n = memory.len() as u64;
+    if n <= address {
+        return stopping(address, Status::Adr); // no first byte
+    }
+    let at = address as usize;
+    let first = memory[at];
+    let code = first / 16;
+    let function = first % 16;
+    let known = function < functions_of(code);
+    let size = size_of(code);
+    let whole = size as u64 <= n - address;
+    if !known {
+        return stopping(address, Status::Ins); // code or function
+    }
+    if !whole {
+        return stopping(address, Status::Adr); // a later byte
+    }
+    let byte = byte_of(code);
+    let pair = register_byte(memory, at, byte);
+    let ra = pair / 16;
+    let rb = pair % 16;
+    if !halves_fit(byte, ra, rb) {
+        return stopping(address, Status::Ins); // a register or a filler
+    }
+    if code == 0 {
+        return stopping(address, Status::Hlt);
+    }
+    Instruction {
+        address,
+        status: Status::Aok,
+        code,
+        function,
+        ra,
+        rb,
+        constant: constant_of(memory, at, size),
+        next: word::sum(address, size as u64),
+    }
+}

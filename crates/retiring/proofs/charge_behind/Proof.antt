@@ -1,0 +1,45 @@
+use Rattle.retiring.proofs.Ways.{loaded-before, jumped-before, returned-before, nothing-before}
+use borrow.Author.Needs.{needs}
+use Rattle.retiring.proofs.charge_behind.Statement.{statement}
+use Rattle.retiring.proofs.charge_behind.Tie as tie
+
+loaded-target-requires : tie.Need-loaded-target-requires
+loaded-target-requires c κs = search needs
+
+source-a-requires : tie.Need-source-a-requires
+source-a-requires c κs = search needs
+
+source-b-requires : tie.Need-source-b-requires
+source-b-requires c κs = search needs
+
+meets-either-requires : tie.Need-meets-either-requires
+meets-either-requires c κs = search needs
+
+returns : tie.Need-returns
+returns c = search (needs, loaded-before)
+
+mispredicted-requires : tie.Need-mispredicted-requires
+mispredicted-requires c κs = search needs
+
+returns-2 : tie.Need-returns-2
+returns-2 c = search (needs, jumped-before)
+
+returns-3 : tie.Need-returns-3
+returns-3 c = search (needs, returned-before)
+
+returns-4 : tie.Need-returns-4
+returns-4 c = search (needs, nothing-before)
+
+pub charge-behind-spec : {M : Type 1} → statement M
+charge-behind-spec =
+    tie.close
+    (tie.spec
+    loaded-target-requires
+    source-a-requires
+    source-b-requires
+    meets-either-requires
+    returns
+    mispredicted-requires
+    returns-2
+    returns-3
+    returns-4)
