@@ -12,7 +12,7 @@ use Rattle.machine.specs.Words.{sum, number}
 use Rattle.machine.specs.Memory.{Memory, inside, load}
 use Rattle.machine.specs.Table.{rowOf, RegisterByte, noByte, bothNamed, onlyB, onlyA}
 use Rattle.machine.specs.Fetch.{stopping, halvesFit, half, checked, fetch}
-use Rattle.columns.specs.Lengths.{hasByte, length-rule, two}
+use Rattle.columns.specs.Lengths.{hasRegisterByte, length-rule, two}
 use Rattle.columns.specs.Fetching.{aokAt, fetch-is}
 use Rattle.isa.specs.Numbers.{byteNumber, halvesFitBy}
 use Rattle.isa.proofs.Entries.{fits-by}
@@ -35,8 +35,8 @@ low bothNamed x = refl
 low onlyB x = refl
 low onlyA x = refl
 
-named : (y : RegisterByte) → (byteNumber y ≡ 0 → ⊥) → T (hasByte y)
-unfolding byteNumber hasByte
+named : (y : RegisterByte) → (byteNumber y ≡ 0 → ⊥) → T (hasRegisterByte y)
+unfolding byteNumber hasRegisterByte
 named noByte h = absurd (h refl)
 named bothNamed h = tt
 named onlyB h = tt
