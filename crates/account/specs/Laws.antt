@@ -118,18 +118,18 @@ quiet-codes s h = go (is operation (decoded s .instruction)) refl
 
 -- JUMPS AND RETURNS load no register, and neither is the other
 data Kind (i : Instruction) : Type 0 where
-  jumps : is jump i ≡ true → is ret i ≡ false → loadedTarget i ≡ 15 → Kind i
-  returns : is jump i ≡ false → is ret i ≡ true → loadedTarget i ≡ 15 → Kind i
-  others : is jump i ≡ false → is ret i ≡ false → Kind i
+  a-jump : is jump i ≡ true → is ret i ≡ false → loadedTarget i ≡ 15 → Kind i
+  a-return : is jump i ≡ false → is ret i ≡ true → loadedTarget i ≡ 15 → Kind i
+  another : is jump i ≡ false → is ret i ≡ false → Kind i
 
 kind : (i : Instruction) → Kind i
 unfolding is loadedTarget register rowOf table
 kind i = go (is jump i) (is ret i) refl refl
   where
     go : (a b : Bool) → is jump i ≡ a → is ret i ≡ b → Kind i
-    go true b p q = let k = eqb-true (i .code) 7 p in jumps p (rw k) (rw k)
-    go false true p q = let k = eqb-true (i .code) 9 q in returns p q (rw k)
-    go false false p q = others p q
+    go true b p q = let k = eqb-true (i .code) 7 p in a-jump p (rw k) (rw k)
+    go false true p q = let k = eqb-true (i .code) 9 q in a-return p q (rw k)
+    go false false p q = another p q
 
 loadUse-none : (g : Settings) (i j : Instruction) → loadedTarget i ≡ 15 → loadUse g i j ≡ false
 unfolding loadUse
@@ -233,9 +233,9 @@ module _ (s : Plain) (r : isStopped s ≡ false) where
       address-mended m = go (kind (fetched s))
         where
           go : Kind (fetched s) → step s .machine .address ≡ turned (executed s .instruction) (executed s .holds)
-          go (jumps a b d) = cc address-next
-          go (returns a b d) = cc (in-executed s)
-          go (others a b) = cc (in-executed s)
+          go (a-jump a b d) = cc address-next
+          go (a-return a b d) = cc (in-executed s)
+          go (another a b) = cc (in-executed s)
 
 pub step-still : (s : Plain) → isStopped s ≡ true → step s ≡ s
 unfolding step
@@ -277,9 +277,9 @@ module _ (g : Settings) (k : Retired) where
   wrong-stays m = go (kind (k .instruction))
     where
       go : Kind (k .instruction) → is ret (k .instruction) ≡ false
-      go (jumps a b d) = b
-      go (returns a b d) = cc
-      go (others a b) = b
+      go (a-jump a b d) = b
+      go (a-return a b d) = cc
+      go (another a b) = b
 
   module _ (j : Instruction) where
     pub behind-wrong : mispredicted g (k .instruction) (k .holds) ≡ true → eqb (k .instruction .function) 0 ≡ false → amount (reasonBehind g k j) ≡ 2
@@ -287,18 +287,18 @@ module _ (g : Settings) (k : Retired) where
     behind-wrong m f = go (kind (k .instruction))
       where
         go : Kind (k .instruction) → amount (reasonBehind g k j) ≡ 2
-        go (jumps a b d) = cc (loadUse-none g (k .instruction) j d)
-        go (returns a b d) = cc
-        go (others a b) = cc
+        go (a-jump a b d) = cc (loadUse-none g (k .instruction) j d)
+        go (a-return a b d) = cc
+        go (another a b) = cc
 
     pub behind-return : is ret (k .instruction) ≡ true → amount (reasonBehind g k j) ≡ 3
     unfolding mispredicted reasonBehind amount
     behind-return m = go (kind (k .instruction))
       where
         go : Kind (k .instruction) → amount (reasonBehind g k j) ≡ 3
-        go (jumps a b d) = cc
-        go (returns a b d) = cc (loadUse-none g (k .instruction) j d)
-        go (others a b) = cc
+        go (a-jump a b d) = cc
+        go (a-return a b d) = cc (loadUse-none g (k .instruction) j d)
+        go (another a b) = cc
 
     pub behind-other : mispredicted g (k .instruction) (k .holds) ≡ false → is ret (k .instruction) ≡ false → amount (reasonBehind g k j) ≡ bit (loadUse g (k .instruction) j)
     unfolding reasonBehind amount bit

@@ -7,9 +7,9 @@ use lib.Dec.{ltb}
 use borrow.Author.Tests.{eq-eqb, ne-eqb, lt-ltb, le-ltb, ltb-true, ltb-false}
 use Rattle.machine.specs.Runs.{budgetRefused}
 
-pub none : (l c b : ℕ) → b ≡ 0 → true ≡ budgetRefused l c b
+pub no-budget : (l c b : ℕ) → b ≡ 0 → true ≡ budgetRefused l c b
 unfolding budgetRefused
-none l c b h = cc (eq-eqb b 0 h)
+no-budget l c b h = cc (eq-eqb b 0 h)
 
 pub above : (l c b : ℕ) → (b ≡ 0 → ⊥) → l < b → true ≡ budgetRefused l c b
 unfolding budgetRefused
