@@ -1,24 +1,24 @@
 -- What the control proof uses of the instruction set and of the plain step. A new instruction, or another row of the table, has to keep these.
+-- What it uses of the register file alone, a write and what is read after it, is the crate registers' File.
 use Prim.Native.Nat.{ℕ, zero, suc, _+_}
-use mathlib.Core.Bool.{Bool, true, false, cond, not, _&&_, _||_, Bool·beq, true≢false}
+use mathlib.Core.Bool.{Bool, true, false, cond, not, _||_, Bool·beq, true≢false}
 use mathlib.Core.List.{[], _∷_, _++_}
 use mathlib.Core.Path.{_≡_, refl, ap, sym, _∙_}
 use native.Mathlib.Omega.{arith}
-use borrow.Author.Tests.{ltb-true, eqb-true, eqb-false}
-use lib.Dec.{ltb, eqb}
-use lib.ListN.{length, set, length-set}
-use lib.Seq.{getD-set-same, getD-set-other}
-use Rattle.account.specs.Names.{Status, aok, hlt, adr, ins, Codes, Instruction, Decoded, Accessed, Retired, inM, inW}
-use Rattle.registers.specs.File.{meets-none, length-written}
+use borrow.Author.Tests.{eqb-true}
+use lib.Dec.{eqb}
+use lib.ListN.{length}
+use Rattle.account.specs.Names.{Status, aok, hlt, adr, ins, Codes, Instruction, Decoded, Retired, inM, inW}
 use Rattle.machine.specs.Types.{isBad}
-use Rattle.machine.specs.Memory.{Registers, inside, store, value, written}
+use Rattle.machine.specs.Memory.{inside, store}
 use Rattle.machine.specs.Table.{rowOf, table, is, operation, cmov, jump, ret}
 use Rattle.machine.specs.Fetch.{fetch, parsed, checked, stopping}
-use Rattle.machine.specs.Stages.{register, decode, execute, access, outcome, condition, loads, stores, loading, storing, accessAddress, accessStatus, newCodes, newMemory, newRegisters, resultTarget, loadedTarget, sourceA, sourceB, turned, straight, nextAddress}
+use Rattle.machine.specs.Stages.{register, decode, execute, access, outcome, condition, loads, stores, loading, storing, accessAddress, accessStatus, newCodes, newMemory, newRegisters, loadedTarget, sourceA, sourceB, turned, straight, nextAddress}
 use Rattle.machine.specs.Plain.{Plain, isStopped, fetched, decoded, executed, accessed, performed, stoppedBy, step, steps}
 use Rattle.machine.specs.Prediction.{Settings, Rule, taken, guess, predictedNext, mispredicted, meets, loadUse}
 use Rattle.machine.specs.Charges.{reasonBehind, retiredOf, amount, reasonOf, charge, charges, due}
 use Rattle.machine.specs.Pipeline.{pastResult, pastBoth}
+use Rattle.registers.specs.File.{meets-none, length-written}
 
 -- 1 or 0
 unfoldable pub bit : Bool → ℕ
@@ -250,6 +250,7 @@ stopped-before s h = go (isStopped s) refl
     go false e = e
 
 -- REGISTERS
+-- a step keeps their number: fifteen throughout
 length-step : (s : Plain) → length (step s .machine .registers) ≡ length (s .machine .registers)
 unfolding step performed stoppedBy newRegisters
 length-step s = go (isStopped s) (isBad (accessed s .status))
