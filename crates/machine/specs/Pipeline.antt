@@ -1,8 +1,8 @@
 -- The pipelined engine, one clock at a time.
 use Prim.Native.Nat.{ℕ, zero, suc, _+_}
-use mathlib.Core.Bool.{Bool, true, false, cond, _||_}
+use mathlib.Core.Bool.{Bool, false, cond, _||_}
 use mathlib.Core.List.{List, [], _∷_, _++_}
-use Rattle.machine.specs.Types.{Pipeline, Instruction, Decoded, Executed, Accessed, Codes, Status, aok, isBad, StageD, bubbleD, inD, StageE, bubbleE, inE, StageM, bubbleM, inM, StageW, bubbleW, inW, Kept, noneKept, lastKept, Kinds}
+use Rattle.machine.specs.Types.{Pipeline, Instruction, Accessed, Codes, aok, isBad, StageD, bubbleD, inD, StageE, bubbleE, inE, StageM, bubbleM, inM, StageW, bubbleW, inW, Kept, noneKept, lastKept, Kinds}
 use Rattle.machine.specs.Memory.{Memory, Registers, value}
 use Rattle.machine.specs.Table.{is, ret}
 use Rattle.machine.specs.Fetch.{fetch}
