@@ -7,7 +7,6 @@ use native.Mathlib.Omega.{arith}
 use native.Mathlib.Decide.{decLt}
 use lib.ListN.{length}
 use Rattle.account.specs.Names.{StageD, bubbleD, inD, StageE, bubbleE, inE, bubbleM, inM, bubbleW, inW}
-use Rattle.registers.specs.File.{value-after}
 use Rattle.machine.specs.Memory.{value}
 use Rattle.machine.specs.Table.{is, ret}
 use Rattle.machine.specs.Fetch.{fetch}
@@ -16,6 +15,7 @@ use Rattle.machine.specs.Plain.{Plain, isStopped, fetched, decoded, executed, a
 use Rattle.machine.specs.Prediction.{Settings}
 use Rattle.machine.specs.Charges.{due}
 use Rattle.machine.specs.Pipeline.{Piped, waits, mispredicts, fails, returns, retInE, retInM, fetchAddress, fetchedNow, source, sourceM, sourceW, pastBoth, advanced}
+use Rattle.registers.specs.File.{value-after}
 use Rattle.account.specs.Laws
 use Rattle.account.specs.Laws.{bit, wrongAt}
 use Rattle.account.specs.Signals

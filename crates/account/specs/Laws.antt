@@ -1,24 +1,24 @@
 -- What the control proof uses of the instruction set and of the plain step. A new instruction, or another row of the table, has to keep these.
+-- What it uses of the register file alone, a write and what is read after it, is the crate registers' File.
 use Prim.Native.Nat.{ℕ, zero, suc, _+_}
-use mathlib.Core.Bool.{Bool, true, false, cond, not, _&&_, _||_, Bool·beq, true≢false}
+use mathlib.Core.Bool.{Bool, true, false, cond, not, _||_, Bool·beq, true≢false}
 use mathlib.Core.List.{[], _∷_, _++_}
 use mathlib.Core.Path.{_≡_, refl, ap, sym, _∙_}
 use native.Mathlib.Omega.{arith}
-use borrow.Author.Tests.{ltb-true, eqb-true, eqb-false}
-use lib.Dec.{ltb, eqb}
-use lib.ListN.{length, set, length-set}
-use lib.Seq.{getD-set-same, getD-set-other}
-use Rattle.account.specs.Names.{Status, aok, hlt, adr, ins, Codes, Instruction, Decoded, Accessed, Retired, inM, inW}
-use Rattle.registers.specs.File.{meets-none, length-written}
+use borrow.Author.Tests.{eqb-true}
+use lib.Dec.{eqb}
+use lib.ListN.{length}
+use Rattle.account.specs.Names.{Status, aok, hlt, adr, ins, Codes, Instruction, Decoded, Retired, inM, inW}
 use Rattle.machine.specs.Types.{isBad}
-use Rattle.machine.specs.Memory.{Registers, inside, store, value, written}
+use Rattle.machine.specs.Memory.{inside, store}
 use Rattle.machine.specs.Table.{rowOf, table, is, operation, cmov, jump, ret}
 use Rattle.machine.specs.Fetch.{fetch, parsed, checked, stopping}
-use Rattle.machine.specs.Stages.{register, decode, execute, access, outcome, condition, loads, stores, loading, storing, accessAddress, accessStatus, newCodes, newMemory, newRegisters, resultTarget, loadedTarget, sourceA, sourceB, turned, straight, nextAddress}
+use Rattle.machine.specs.Stages.{register, decode, execute, access, outcome, condition, loads, stores, loading, storing, accessAddress, accessStatus, newCodes, newMemory, newRegisters, loadedTarget, sourceA, sourceB, turned, straight, nextAddress}
 use Rattle.machine.specs.Plain.{Plain, isStopped, fetched, decoded, executed, accessed, performed, stoppedBy, step, steps}
 use Rattle.machine.specs.Prediction.{Settings, Rule, taken, guess, predictedNext, mispredicted, meets, loadUse}
 use Rattle.machine.specs.Charges.{reasonBehind, retiredOf, amount, reasonOf, charge, charges, due}
 use Rattle.machine.specs.Pipeline.{pastResult, pastBoth}
+use Rattle.registers.specs.File.{meets-none, length-written}
 
 -- 1 or 0
 unfoldable pub bit : Bool → ℕ
@@ -118,18 +118,18 @@ quiet-codes s h = go (is operation (decoded s .instruction)) refl
 
 -- JUMPS AND RETURNS load no register, and neither is the other
 data Kind (i : Instruction) : Type 0 where
-  jumps : is jump i ≡ true → is ret i ≡ false → loadedTarget i ≡ 15 → Kind i
-  returns : is jump i ≡ false → is ret i ≡ true → loadedTarget i ≡ 15 → Kind i
-  others : is jump i ≡ false → is ret i ≡ false → Kind i
+  a-jump : is jump i ≡ true → is ret i ≡ false → loadedTarget i ≡ 15 → Kind i
+  a-return : is jump i ≡ false → is ret i ≡ true → loadedTarget i ≡ 15 → Kind i
+  another : is jump i ≡ false → is ret i ≡ false → Kind i
 
 kind : (i : Instruction) → Kind i
 unfolding is loadedTarget register rowOf table
 kind i = go (is jump i) (is ret i) refl refl
   where
     go : (a b : Bool) → is jump i ≡ a → is ret i ≡ b → Kind i
-    go true b p q = let k = eqb-true (i .code) 7 p in jumps p (rw k) (rw k)
-    go false true p q = let k = eqb-true (i .code) 9 q in returns p q (rw k)
-    go false false p q = others p q
+    go true b p q = let k = eqb-true (i .code) 7 p in a-jump p (rw k) (rw k)
+    go false true p q = let k = eqb-true (i .code) 9 q in a-return p q (rw k)
+    go false false p q = another p q
 
 loadUse-none : (g : Settings) (i j : Instruction) → loadedTarget i ≡ 15 → loadUse g i j ≡ false
 unfolding loadUse
@@ -233,9 +233,9 @@ module _ (s : Plain) (r : isStopped s ≡ false) where
       address-mended m = go (kind (fetched s))
         where
           go : Kind (fetched s) → step s .machine .address ≡ turned (executed s .instruction) (executed s .holds)
-          go (jumps a b d) = cc address-next
-          go (returns a b d) = cc (in-executed s)
-          go (others a b) = cc (in-executed s)
+          go (a-jump a b d) = cc address-next
+          go (a-return a b d) = cc (in-executed s)
+          go (another a b) = cc (in-executed s)
 
 pub step-still : (s : Plain) → isStopped s ≡ true → step s ≡ s
 unfolding step
@@ -250,6 +250,7 @@ stopped-before s h = go (isStopped s) refl
     go false e = e
 
 -- REGISTERS
+-- a step keeps their number: fifteen throughout
 length-step : (s : Plain) → length (step s .machine .registers) ≡ length (s .machine .registers)
 unfolding step performed stoppedBy newRegisters
 length-step s = go (isStopped s) (isBad (accessed s .status))
@@ -277,9 +278,9 @@ module _ (g : Settings) (k : Retired) where
   wrong-stays m = go (kind (k .instruction))
     where
       go : Kind (k .instruction) → is ret (k .instruction) ≡ false
-      go (jumps a b d) = b
-      go (returns a b d) = cc
-      go (others a b) = b
+      go (a-jump a b d) = b
+      go (a-return a b d) = cc
+      go (another a b) = b
 
   module _ (j : Instruction) where
     pub behind-wrong : mispredicted g (k .instruction) (k .holds) ≡ true → eqb (k .instruction .function) 0 ≡ false → amount (reasonBehind g k j) ≡ 2
@@ -287,18 +288,18 @@ module _ (g : Settings) (k : Retired) where
     behind-wrong m f = go (kind (k .instruction))
       where
         go : Kind (k .instruction) → amount (reasonBehind g k j) ≡ 2
-        go (jumps a b d) = cc (loadUse-none g (k .instruction) j d)
-        go (returns a b d) = cc
-        go (others a b) = cc
+        go (a-jump a b d) = cc (loadUse-none g (k .instruction) j d)
+        go (a-return a b d) = cc
+        go (another a b) = cc
 
     pub behind-return : is ret (k .instruction) ≡ true → amount (reasonBehind g k j) ≡ 3
     unfolding mispredicted reasonBehind amount
     behind-return m = go (kind (k .instruction))
       where
         go : Kind (k .instruction) → amount (reasonBehind g k j) ≡ 3
-        go (jumps a b d) = cc
-        go (returns a b d) = cc (loadUse-none g (k .instruction) j d)
-        go (others a b) = cc
+        go (a-jump a b d) = cc
+        go (a-return a b d) = cc (loadUse-none g (k .instruction) j d)
+        go (another a b) = cc
 
     pub behind-other : mispredicted g (k .instruction) (k .holds) ≡ false → is ret (k .instruction) ≡ false → amount (reasonBehind g k j) ≡ bit (loadUse g (k .instruction) j)
     unfolding reasonBehind amount bit

@@ -26,8 +26,8 @@ begins-further {a} x y = record { rest = x .rest ++ y .rest; whole = y .whole �
 
 -- a clock writes behind what is logged
 record Longer (p q : Piped) : Type 0 where
-  addresses : Begins (q .addresses) (p .addresses)
-  cycles : Begins (q .cycles) (p .cycles)
+  addresses : Begins (q .addressLog) (p .addressLog)
+  cycles : Begins (q .cycleLog) (p .cycleLog)
 
 same-logs : (p : Piped) → Longer p p
 same-logs p = record { addresses = begins-all refl; cycles = begins-all refl }
@@ -52,7 +52,7 @@ longer g p c (suc d) =
 -- instruction k + 1 is performed, within the premise, and due by clock c: whatever c is, and whatever comes after
 pub logs-begin : (g : Settings) (t : Start) → length (t .registers) ≡ 15 → (k : ℕ) → Untouched (plainFrom t) (suc k) → isStopped (steps (plainFrom t) k) ≡ false
     → (c : ℕ) → due g (plainFrom t) (suc k) ≤ c
-    → Begins (clocks g (pipedFrom t) c .addresses) (steps (plainFrom t) (suc k) .log) × Begins (clocks g (pipedFrom t) c .cycles) (dueCycles g (plainFrom t) (suc k))
+    → Begins (clocks g (pipedFrom t) c .addressLog) (steps (plainFrom t) (suc k) .log) × Begins (clocks g (pipedFrom t) c .cycleLog) (dueCycles g (plainFrom t) (suc k))
 logs-begin g t l k u r c q =
     let d = due g (plainFrom t) (suc k) in
     let e : (c - d) + d ≡ c = omega arith in

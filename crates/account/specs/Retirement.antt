@@ -14,8 +14,8 @@ pub record Books (g : Settings) (p p′ : Piped) (w : Accessed) : Type 0 where
   pub counts : p′ .pipeline .cycles ≡ p .pipeline .cycles + 1
   pub kinds : p′ .pipeline .kinds ≡ counted (p .pipeline .kinds) (reasonFrom g (p .pipeline .kept) (w .instruction))
   pub last : p′ .pipeline .last ≡ w .instruction .address
-  pub addresses : p′ .addresses ≡ p .addresses ++ w .instruction .address ∷ []
-  pub cycles : p′ .cycles ≡ p .cycles ++ (p .pipeline .cycles + 1) ∷ []
+  pub addresses : p′ .addressLog ≡ p .addressLog ++ w .instruction .address ∷ []
+  pub cycles : p′ .cycleLog ≡ p .cycleLog ++ (p .pipeline .cycles + 1) ∷ []
 
 module _ (g : Settings) (p : Piped) where
   pub clock-still : isBad (p .pipeline .status) ≡ true → clock g p ≡ p

@@ -45,8 +45,8 @@ pub record Agrees (g : Settings) (s : Plain) (p : Piped) (c n : ℕ) : Type 0 wh
   pub retired : p .pipeline .retired ≡ n
   pub exactly : DueBy g s c n
   -- in the plain engine's order, the k-th in the cycle in which it is due
-  pub addresses : p .addresses ≡ steps s n .log
-  pub cycles : p .cycles ≡ dueCycles g s n
+  pub addresses : p .addressLog ≡ steps s n .log
+  pub cycles : p .cycleLog ≡ dueCycles g s n
   -- "The cycle counts kept by kind sum the charges of the instructions that the pipeline retired"
   pub kinds : p .pipeline .kinds ≡ kindsOf g s n
   -- registers, status and last address are the plain engine's after as many instructions

@@ -32,8 +32,8 @@ module _ (g : Settings) (s : Plain) (k : ℕ) where
   -- what the pipeline has counted and logged of n instructions
   pub record Counted (p : Piped) (n : ℕ) : Type 0 where
     pub retired : p .pipeline .retired ≡ n
-    pub addresses : p .addresses ≡ steps s n .log
-    pub cycles : p .cycles ≡ dueCycles g s n
+    pub addresses : p .addressLog ≡ steps s n .log
+    pub cycles : p .cycleLog ≡ dueCycles g s n
     pub kinds : p .pipeline .kinds ≡ kindsOf g s n
     pub last : p .pipeline .last ≡ steps s n .machine .last
 
@@ -122,8 +122,8 @@ module _ (g : Settings) (s : Plain) (k : ℕ) where
             counts =
                 record {
                   retired = cc (i .retired);
-                  addresses = cc (i .addresses, append-nil (p .addresses));
-                  cycles = cc (i .cycles, append-nil (p .cycles));
+                  addresses = cc (i .addresses, append-nil (p .addressLog));
+                  cycles = cc (i .cycles, append-nil (p .cycleLog));
                   kinds = cc (i .kinds);
                   last = cc (i .last);
                 };

@@ -75,10 +75,10 @@ record Performed (s : Plain) (b q : ℕ) : Type 0 where
   spent : isStopped (steps s b) ≡ false → q ≡ b
   count : steps s q .machine .count ≡ q
 
-performed : (s : Plain) → s .machine .count ≡ 0 → (b : ℕ) → (q : ℕ) × Performed s b q
+history : (s : Plain) → s .machine .count ≡ 0 → (b : ℕ) → (q : ℕ) × Performed s b q
 unfolding steps
-performed s z zero = (0, record { within = omega arith; each = λ i h. absurd (omega arith); settled = refl; spent = λ _. refl; count = z })
-performed s z (suc b) = go (performed s z b) (isStopped (steps s b)) refl
+history s z zero = (0, record { within = omega arith; each = λ i h. absurd (omega arith); settled = refl; spent = λ _. refl; count = z })
+history s z (suc b) = go (history s z b) (isStopped (steps s b)) refl
   where
     go : (q : ℕ) × Performed s b q → (x : Bool) → isStopped (steps s b) ≡ x → (q : ℕ) × Performed s (suc b) q
     go r true e =
@@ -265,7 +265,7 @@ module _ (g : Settings) (t : Start) (budget clocked : ℕ) (log addresses cycles
     two-runs q =
         let a = plain-ran (plainFrom t .machine) (t .memory) budget log x in
         let b = pipe-ran g (pipedFrom t .pipeline) (t .memory) clocked addresses cycles y in
-        let r = performed (plainFrom t) refl budget in
+        let r = history (plainFrom t) refl budget in
         let d = demand3 g t l k u clocked q in
         rw (a .0, b .0) (done-agree (r .0) (r .1) (d .0) (d .1) (a .1) (b .1) (b .2))
 
@@ -277,7 +277,7 @@ module _ (g : Settings) (t : Start) (budget clocked : ℕ) (log addresses cycles
     first-lines h d i b =
         let a = plain-ran (plainFrom t .machine) (t .memory) budget log x in
         let p = pipe-ran g (pipedFrom t .pipeline) (t .memory) clocked addresses cycles y in
-        let r = performed (plainFrom t) refl budget in
+        let r = history (plainFrom t) refl budget in
         let k′ : k < r .0 = omega (arith, ap (λ (z : PlainAnswer). z .machine .count) (a .0), counts (r .0) (r .1)) in
         let f = logs-begin g t l k u (r .1 .each k k′) clocked d in
         let each : (j : ℕ) → j < suc k → isStopped (steps (plainFrom t) j) ≡ false = λ j z. r .1 .each j (omega arith) in

@@ -50,8 +50,8 @@ module _ (g : Settings) (s : Plain) where
 pub record SameAnswer (p q : Piped) : Type 0 where
   pub retired : p .pipeline .retired ≡ q .pipeline .retired
   pub counts : p .pipeline .cycles ≡ q .pipeline .cycles
-  pub addresses : p .addresses ≡ q .addresses
-  pub cycles : p .cycles ≡ q .cycles
+  pub addresses : p .addressLog ≡ q .addressLog
+  pub cycles : p .cycleLog ≡ q .cycleLog
   pub kinds : p .pipeline .kinds ≡ q .pipeline .kinds
   pub registers : p .pipeline .registers ≡ q .pipeline .registers
   pub status : p .pipeline .status ≡ q .pipeline .status

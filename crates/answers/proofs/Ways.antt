@@ -9,9 +9,9 @@ use Rattle.machine.specs.declared.Codes.{Codes}
 use Rattle.machine.specs.Types.{codesNumber}
 use Rattle.machine.specs.Runs.{budgetRefused}
 
-pub none : (l c b : ℕ) → b ≡ 0 → true ≡ budgetRefused l c b
+pub no-budget : (l c b : ℕ) → b ≡ 0 → true ≡ budgetRefused l c b
 unfolding budgetRefused
-none l c b h = cc (eq-eqb b 0 h)
+no-budget l c b h = cc (eq-eqb b 0 h)
 
 pub above : (l c b : ℕ) → (b ≡ 0 → ⊥) → l < b → true ≡ budgetRefused l c b
 unfolding budgetRefused

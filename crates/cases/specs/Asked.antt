@@ -48,12 +48,12 @@ pub record Case : Type 0 where
   pub looks : List Look
 
 -- the k bytes of a number in the order in which they are written, and zeros up to the size
-abbrev written : ℕ → ℕ → List ℕ
-written zero x = []
-written (suc k) x = x / 256 ^ k % 256 ∷ written k x
+abbrev spelled : ℕ → ℕ → List ℕ
+spelled zero x = []
+spelled (suc k) x = x / 256 ^ k % 256 ∷ spelled k x
 
 abbrev memoryOf : Case → Memory
-memoryOf c = written (c .bytes) (c .image) ++ replicate (c .size - c .bytes) 0
+memoryOf c = spelled (c .bytes) (c .image) ++ replicate (c .size - c .bytes) 0
 
 abbrev given : List (ℕ × ℕ) → Registers
 given [] = replicate 15 0

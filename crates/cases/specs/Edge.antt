@@ -4,7 +4,7 @@ use mathlib.Core.List.{List, [], _∷_}
 use mathlib.Core.Path.{_≡_, refl}
 use lib.ListN.{getD, replicate}
 use Rattle.machine.specs.Memory.{Memory}
-use Rattle.edge.specs.Edge.{Edge, edge, wordsIn, withWords, codesFrom, edgeRefusal, resultWords, edgeDone, edgeRun, replayed}
+use Rattle.edge.specs.Edge.{edge, wordsIn, withWords, codesFrom, edgeRefusal, resultWords, edgeDone, edgeRun, replayed}
 use Rattle.cases.specs.Promises.{host-edge}
 use Rattle.cases.specs.Wrong.{FallsFoul, PipeFoul, refused, differs}
 

@@ -323,7 +323,7 @@ no-plain-rule rule p =
 abbrev after : PipeReplay → Start → ℕ → Piped
 after f t c =
     let r = f (pipeAt t) (t .memory) c log log in
-    record { pipeline = r .pipeline; memory = r .memory; addresses = take (r .pipeline .retired) (r .addresses); cycles = take (r .pipeline .retired) (r .cycles) }
+    record { pipeline = r .pipeline; memory = r .memory; addressLog = take (r .pipeline .retired) (r .addresses); cycleLog = take (r .pipeline .retired) (r .cycles) }
 
 -- it does not agree with the plain history, however many instructions are said to have retired
 abbrev pub Disagrees : PipeReplay → Start → ℕ → Type 0

@@ -15,7 +15,7 @@ use Rattle.machine.specs.Memory.{Memory}
 use Rattle.machine.specs.Table.{rowOf, table, RegisterByte, noByte, bothNamed, onlyB, onlyA}
 use Rattle.machine.specs.Fetch.{sizeAt, ownBytes, stopping, checked, half, constantIn, parsed, fetch, halvesFit}
 use Rattle.columns.specs.Names.{Status, aok, hlt, Instruction}
-use Rattle.columns.specs.Lengths.{length-rule, two, parts, hasByte}
+use Rattle.columns.specs.Lengths.{length-rule, two, parts, hasRegisterByte}
 
 -- M₁[a], a byte, and M₈[a], the eight bytes from a on
 abbrev pub M₁ : Memory → ℕ → ℕ
@@ -52,8 +52,8 @@ unfolding number
 own-number zero m a n j h = refl
 own-number (suc k) m a n j h = rw (own m a n j (omega arith), own-number k m a n (j + 1) (omega arith), add-assoc)
 
-half-same : (y : RegisterByte) (x x′ : ℕ) → (T (hasByte y) → x ≡ x′) → half y x ≡ half y x′
-unfolding half hasByte
+half-same : (y : RegisterByte) (x x′ : ℕ) → (T (hasRegisterByte y) → x ≡ x′) → half y x ≡ half y x′
+unfolding half hasRegisterByte
 half-same noByte x x′ e = refl
 half-same bothNamed x x′ e = e tt
 half-same onlyB x x′ e = e tt
@@ -92,7 +92,7 @@ fetch-is m a =
     let n = row .size in
     let rule : n ≡ parts row = length-rule (M₁ m a / 16) in
     let first : getD (take n (drop a m)) 0 0 ≡ M₁ m a = own m a n 0 (omega arith) ∙ ap (M₁ m) (add-zero a) in
-    let second : T (hasByte (row .byte)) → getD (take n (drop a m)) 1 0 ≡ M₁ m (a + 1) = λ t. own m a n 1 (rw rule (two row t)) in
+    let second : T (hasRegisterByte (row .byte)) → getD (take n (drop a m)) 1 0 ≡ M₁ m (a + 1) = λ t. own m a n 1 (rw rule (two row t)) in
     rw first
     (cc (
       none-own m a n (omega arith),

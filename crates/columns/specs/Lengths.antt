@@ -9,15 +9,15 @@ use lib.ListN.{getD}
 use Rattle.machine.specs.Table.{Row, RegisterByte, noByte, bothNamed, onlyB, onlyA, table, noRow, rowOf}
 
 -- is there a register byte
-unfoldable pub hasByte : RegisterByte → Bool
-hasByte noByte = false
-hasByte bothNamed = true
-hasByte onlyB = true
-hasByte onlyA = true
+unfoldable pub hasRegisterByte : RegisterByte → Bool
+hasRegisterByte noByte = false
+hasRegisterByte bothNamed = true
+hasRegisterByte onlyB = true
+hasRegisterByte onlyA = true
 
 -- the length that the parts of an instruction add up to: the first byte, a register byte, an 8-byte constant
 unfoldable pub parts : Row → ℕ
-parts row = 1 + cond (hasByte (row .byte)) 1 0 + cond (ltb 8 (row .size)) 8 0
+parts row = 1 + cond (hasRegisterByte (row .byte)) 1 0 + cond (ltb 8 (row .size)) 8 0
 
 -- a test holds of every row of a list
 abbrev every : (Row → Bool) → List Row → Bool
@@ -36,13 +36,13 @@ at f (x ∷ xs) d t e (suc k) = at f xs d (both (f x) (every f xs) t .1) e k
 
 -- the rule: the length of a row is that of its parts
 pub length-rule : (code : ℕ) → rowOf code .size ≡ parts (rowOf code)
-unfolding table rowOf parts hasByte
+unfolding table rowOf parts hasRegisterByte
 length-rule code = eqb→eq _ _ (at (λ row. eqb (row .size) (parts row)) table noRow tt tt code)
 
 -- with a register byte there are two bytes at least
-pub two : (row : Row) → T (hasByte (row .byte)) → 2 ≤ parts row
+pub two : (row : Row) → T (hasRegisterByte (row .byte)) → 2 ≤ parts row
 unfolding parts
-two row t = go (hasByte (row .byte)) t
+two row t = go (hasRegisterByte (row .byte)) t
   where
     go : (b : Bool) → T b → 2 ≤ 1 + cond b 1 0 + cond (ltb 8 (row .size)) 8 0
     go true t = omega arith

@@ -3,8 +3,8 @@ use machine::Codes;
 use machine::Pipeline;
 use machine::Status;
 ghost use mathlib.Core.Path.{_≡_};
-ghost use Prim.Native.Nat.{_+_, _*_, _≤_, _<_};
-ghost use lib.ListN.{length, replicate};
+ghost use Prim.Native.Nat.{_*_, _≤_};
+ghost use lib.ListN.{length};
 ghost use Rattle.machine.specs.Types.{statusNumber};
 ghost use Rattle.edge.specs.Edge.{wordsIn, withWords, codesFrom, edgeRefusal, resultWords, edge, replayed};
 

@@ -12,7 +12,7 @@ use Rattle.machine.specs.Words.{sum, number}
 use Rattle.machine.specs.Memory.{Memory, inside, load}
 use Rattle.machine.specs.Table.{rowOf, RegisterByte, noByte, bothNamed, onlyB, onlyA}
 use Rattle.machine.specs.Fetch.{stopping, halvesFit, half, checked, fetch}
-use Rattle.columns.specs.Lengths.{hasByte, length-rule, two}
+use Rattle.columns.specs.Lengths.{hasRegisterByte, length-rule, two}
 use Rattle.columns.specs.Fetching.{aokAt, fetch-is}
 use Rattle.rows.specs.Numbers.{byteNumber}
 use Rattle.fetching.specs.Halves.{halvesFitBy}
@@ -42,8 +42,8 @@ fits-by bothNamed a b = refl
 fits-by onlyB a b = refl
 fits-by onlyA a b = refl
 
-named : (y : RegisterByte) → (byteNumber y ≡ 0 → ⊥) → T (hasByte y)
-unfolding byteNumber hasByte
+named : (y : RegisterByte) → (byteNumber y ≡ 0 → ⊥) → T (hasRegisterByte y)
+unfolding byteNumber hasRegisterByte
 named noByte h = absurd (h refl)
 named bothNamed h = tt
 named onlyB h = tt

@@ -1,6 +1,6 @@
 -- What is taken out of the stages once is document 01's order of sources, its load-use and W's write. Assumes nothing.
 use mathlib.Core.Path.{_≡_, refl}
-use mathlib.Core.Bool.{Bool, true, false, cond, _||_, _&&_}
+use mathlib.Core.Bool.{Bool, true, false, cond, _||_}
 use Prim.Native.Nat.{ℕ}
 use lib.Dec.{ltb, eqb}
 use lib.ListN.{length}
@@ -18,7 +18,7 @@ use Rattle.machine.specs.Memory.{Memory, Registers, value, written}
 use Rattle.machine.specs.Stages.{decode, execute, access, newRegisters, sourceA, sourceB}
 use Rattle.machine.specs.Prediction.{asIn01, meets, loadUse}
 use Rattle.machine.specs.Pipeline.{afterE, afterM, pastResult, pastBoth, registersAfter, waitsBehind}
-use Rattle.stage.specs.Forwarding.{noTargets, targetsM, targetsW, sourcesD, resultM, resultW, wordW, writtenBy, sourceBy, decodedBy}
+use Rattle.stage.specs.Forwarding.{targetsM, targetsW, sourcesD, resultM, resultW, wordW, writtenBy, sourceBy, decodedBy}
 use Rattle.flow.specs.Moving.{sourceIn, decodedIn}
 
 -- the access changes no target

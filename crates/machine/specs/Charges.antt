@@ -1,11 +1,11 @@
 -- The cycle account: what an instruction is charged, by its predecessor (for the counts that the pipeline keeps too), and in which cycle it is due,
 -- from the plain history alone.
 use Prim.Native.Nat.{ℕ, zero, suc, _+_}
-use mathlib.Core.Bool.{Bool, cond, not, _&&_}
+use mathlib.Core.Bool.{cond, not, _&&_}
 use mathlib.Core.List.{List, [], _∷_, _++_}
 use lib.Dec.{eqb}
 use Rattle.machine.specs.Types.{Instruction, Accessed, Retired, Kept, noneKept, lastKept, Kinds}
-use Rattle.machine.specs.Table.{is, jump, ret}
+use Rattle.machine.specs.Table.{is, ret}
 use Rattle.machine.specs.Prediction.{Settings, mispredicted, loadUse}
 use Rattle.machine.specs.Plain.{Plain, fetched, accessed, steps}
 

@@ -1,8 +1,8 @@
 -- The pipelined engine, one clock at a time.
 use Prim.Native.Nat.{ℕ, zero, suc, _+_}
-use mathlib.Core.Bool.{Bool, true, false, cond, _||_}
+use mathlib.Core.Bool.{Bool, false, cond, _||_}
 use mathlib.Core.List.{List, [], _∷_, _++_}
-use Rattle.machine.specs.Types.{Pipeline, Instruction, Decoded, Executed, Accessed, Codes, Status, aok, isBad, StageD, bubbleD, inD, StageE, bubbleE, inE, StageM, bubbleM, inM, StageW, bubbleW, inW, Kept, noneKept, lastKept, Kinds}
+use Rattle.machine.specs.Types.{Pipeline, Instruction, Accessed, Codes, aok, isBad, StageD, bubbleD, inD, StageE, bubbleE, inE, StageM, bubbleM, inM, StageW, bubbleW, inW, Kept, noneKept, lastKept, Kinds}
 use Rattle.machine.specs.Memory.{Memory, Registers, value}
 use Rattle.machine.specs.Table.{is, ret}
 use Rattle.machine.specs.Fetch.{fetch}
@@ -14,8 +14,8 @@ use Rattle.machine.specs.Charges.{noKinds, counted, retiredOf, reasonFro
 pub record Piped : Type 0 where
   pub pipeline : Pipeline
   pub memory : Memory
-  pub addresses : List ℕ
-  pub cycles : List ℕ
+  pub addressLog : List ℕ
+  pub cycleLog : List ℕ
 
 -- "At a fresh start F holds the start address and the rest are bubbles."
 unfoldable pub pipeStart : Registers → Codes → ℕ → Pipeline
@@ -37,7 +37,7 @@ pipeStart r c a =
     }
 
 abbrev pub pipedOf : Pipeline → Memory → Piped
-pipedOf k m = record { pipeline = k; memory = m; addresses = []; cycles = [] }
+pipedOf k m = record { pipeline = k; memory = m; addressLog = []; cycleLog = [] }
 
 -- THE WORK OF A STAGE IN A CLOCK
 -- what E's instruction is after execution, on the codes as the clock began
@@ -212,8 +212,8 @@ advanced g p =
             kept = keptAfter (k .w) (k .kept);
           };
       memory = memoryAfter (k .m) (p .memory);
-      addresses = p .addresses ++ logged (k .w) (lastAfter (k .w) (k .last));
-      cycles = p .cycles ++ logged (k .w) (k .cycles + 1);
+      addressLog = p .addressLog ++ logged (k .w) (lastAfter (k .w) (k .last));
+      cycleLog = p .cycleLog ++ logged (k .w) (k .cycles + 1);
     }
 
 -- "When its status is bad, that clock changes only the counts, logs, status and last address: everything else stays as it stood."
@@ -238,8 +238,8 @@ stoppedIn g p w =
             kept = k .kept;
           };
       memory = p .memory;
-      addresses = p .addresses ++ w .instruction .address ∷ [];
-      cycles = p .cycles ++ (k .cycles + 1) ∷ [];
+      addressLog = p .addressLog ++ w .instruction .address ∷ [];
+      cycleLog = p .cycleLog ++ (k .cycles + 1) ∷ [];
     }
 
 unfoldable pub clockBy : Settings → Piped → StageW → Piped

@@ -1,6 +1,6 @@
 -- Budgets, logs, answers: what each entry open to callers gives back, refusals included.
 use Prim.Native.Nat.{ℕ, _+_}
-use mathlib.Core.Bool.{Bool, true, false, cond, not, _&&_, _||_}
+use mathlib.Core.Bool.{Bool, false, cond, _&&_, _||_}
 use mathlib.Core.List.{List, [], _∷_}
 use lib.Dec.{ltb, leb, eqb}
 use lib.ListN.{length}
@@ -128,7 +128,7 @@ abbrev pub pipeAnswer : ℕ → Pipeline → Memory → List ℕ → List ℕ �
 pipeAnswer n k m a y = record { number = n; pipeline = k; memory = m; addresses = a; cycles = y }
 
 unfoldable pub pipeDone : Piped → List ℕ → List ℕ → PipeAnswer
-pipeDone p a y = pipeAnswer 0 (p .pipeline) (p .memory) (laid (p .addresses) a) (laid (p .cycles) y)
+pipeDone p a y = pipeAnswer 0 (p .pipeline) (p .memory) (laid (p .addressLog) a) (laid (p .cycleLog) y)
 
 unfoldable pub pipeBy : Settings → List ℕ → Pipeline → Memory → ℕ → List ℕ → List ℕ → PipeAnswer
 pipeBy g logs k m budget a y =

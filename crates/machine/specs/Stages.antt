@@ -1,14 +1,14 @@
 -- The stage tables of document 003, by code, which both engines use: decode, execute, access, write back, next address.
-use Prim.Native.Nat.{ℕ, _+_}
+use Prim.Native.Nat.{ℕ}
 use mathlib.Core.Bool.{Bool, true, false, cond, not, _&&_, _||_, Bool·beq}
-use mathlib.Core.List.{List, [], _∷_}
+use mathlib.Core.List.{[], _∷_}
 use lib.Bits.{bitAnd, bitXor}
-use lib.Dec.{eqb, leb}
+use lib.Dec.{eqb}
 use lib.ListN.{getD}
 use lib.IntN.{pos, _+ℤ_, _-ℤ_}
 use lib.Signed.{ltZ}
 use mir.Syntax.{w64}
-use Rattle.machine.specs.Types.{Instruction, Decoded, Executed, Accessed, Codes, Status, aok, adr, isBad}
+use Rattle.machine.specs.Types.{Instruction, Decoded, Executed, Accessed, Codes, Status, adr, isBad}
 use Rattle.machine.specs.Words.{sum, difference, signed, outside}
 use Rattle.machine.specs.Memory.{Memory, Registers, inside, load, store, written}
 use Rattle.machine.specs.Table.{rowOf, is, cmov, operation, jump, call, ret, Which, none, rA, rB, rsp, Computes, nothing, bOpA, justA, justC, bPlusC, bLess8, bPlus8, Accesses, noAccess, loadsAtE, loadsAtA, storesA, storesNext}

@@ -22,7 +22,7 @@ use Rattle.pipe.specs.Parts.{whole}
 
 -- the record, its memory and its logs
 abbrev pub piped : Pipeline → Memory → List ℕ → List ℕ → Piped
-piped k m es ys = record { pipeline = k; memory = m; addresses = es; cycles = ys }
+piped k m es ys = record { pipeline = k; memory = m; addressLog = es; cycleLog = ys }
 
 good-status : (s : Status) → isBad s ≡ false → s ≡ aok
 unfolding isBad

@@ -21,10 +21,10 @@ module _ (short : Bool) (k : Pipeline) (m : Memory) (budget : ℕ) (a y : List �
   unfolding answerBy
   refused h = cc (ne-eqb n 0 h)
 
-  pub performed : n ≡ 0 → (p : Pipeline) (m′ a′ y′ : List ℕ) → pipeAnswer 0 p m′ a′ y′ ≡ pipeDone (clocks asIn01 (pipedOf k m) budget) a y
+  pub not-refused : n ≡ 0 → (p : Pipeline) (m′ a′ y′ : List ℕ) → pipeAnswer 0 p m′ a′ y′ ≡ pipeDone (clocks asIn01 (pipedOf k m) budget) a y
       → pipeAnswer 0 p m′ a′ y′ ≡ answerBy short k m budget a y
   unfolding answerBy
-  performed h p m′ a′ y′ d = cc (eq-eqb n 0 h)
+  not-refused h p m′ a′ y′ d = cc (eq-eqb n 0 h)
 
 -- no refusal: the budget is within the limit, and the record's counts are within its cycles
 none-true : (s b l r : Bool) → lowest ((1, s) ∷ (3, b) ∷ (4, l) ∷ (5, r) ∷ []) ≡ 0 → (b ≡ false) × (r ≡ false)

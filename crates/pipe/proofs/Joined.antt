@@ -23,7 +23,7 @@ use Rattle.answers.specs.Logs.{laid-joined}
 
 -- with entries before those of p
 before : List ℕ → List ℕ → Piped → Piped
-before es ys p = record { pipeline = p .pipeline; memory = p .memory; addresses = es ++ p .addresses; cycles = ys ++ p .cycles }
+before es ys p = record { pipeline = p .pipeline; memory = p .memory; addressLog = es ++ p .addressLog; cycleLog = ys ++ p .cycleLog }
 
 module _ (g : Settings) (es ys : List ℕ) where
   decoded-before : (p : Piped) (d : StageD) → decodedD (before es ys p) d ≡ decodedD p d
@@ -59,8 +59,8 @@ module _ (g : Settings) (es ys : List ℕ) where
 
 -- COUNTS: each retirement is logged once
 pub record Even (p q : Piped) : Type 0 where
-  pub addresses : p .pipeline .retired + length (q .addresses) ≡ q .pipeline .retired + length (p .addresses)
-  pub cycles : p .pipeline .retired + length (q .cycles) ≡ q .pipeline .retired + length (p .cycles)
+  pub addresses : p .pipeline .retired + length (q .addressLog) ≡ q .pipeline .retired + length (p .addressLog)
+  pub cycles : p .pipeline .retired + length (q .cycleLog) ≡ q .pipeline .retired + length (p .cycleLog)
 
 even : (p : Piped) → Even p p
 even p = record { addresses = refl; cycles = refl }
@@ -75,7 +75,7 @@ module _ (g : Settings) where
   unfolding advanced
   advanced-even p =
       let k = p .pipeline in
-      record { addresses = one-logged (k .w) (p .addresses) _ (k .retired); cycles = one-logged (k .w) (p .cycles) _ (k .retired) }
+      record { addresses = one-logged (k .w) (p .addressLog) _ (k .retired); cycles = one-logged (k .w) (p .cycleLog) _ (k .retired) }
 
   by-even : (p : Piped) (w : StageW) → Even p (clockBy g p w)
   unfolding clockBy stoppedIn
@@ -109,11 +109,11 @@ module _ (g : Settings) where
   clocks-add p a (suc b) = rw (add-suc a b) (ap (clock g) (clocks-add p a b))
 
   clocks-join : (p : Piped) (a b : ℕ)
-      → clocks g p (a + b) ≡ before (clocks g p a .addresses) (clocks g p a .cycles) (clocks g (pipedOf (clocks g p a .pipeline) (clocks g p a .memory)) b)
+      → clocks g p (a + b) ≡ before (clocks g p a .addressLog) (clocks g p a .cycleLog) (clocks g (pipedOf (clocks g p a .pipeline) (clocks g p a .memory)) b)
   unfolding before
   clocks-join p a b =
       let s = clocks g p a in
-      clocks-add p a b ∙ simp append-nil at (clocks-before g (s .addresses) (s .cycles) (pipedOf (s .pipeline) (s .memory)) b)
+      clocks-add p a b ∙ simp append-nil at (clocks-before g (s .addressLog) (s .cycleLog) (pipedOf (s .pipeline) (s .memory)) b)
 
   -- THE THEOREM
   -- a run that is not refused
@@ -130,12 +130,12 @@ module _ (g : Settings) where
       go false e h = absurd (eqb-false refusal 0 e h)
 
   -- the answers f, h and b of the first run, the second and both, over the states s and r in which the first two end
-  from-states : (s r : Piped) (n : ℕ) (log times : List ℕ) (f h b : PipeAnswer) → f .addresses ≡ laid (s .addresses) log → f .cycles ≡ laid (s .cycles) times
-      → n ≡ length (s .addresses) → n ≡ length (s .cycles) → h ≡ pipeDone r (drop n (f .addresses)) (drop n (f .cycles)) → b ≡ pipeDone (before (s .addresses) (s .cycles) r) log times
+  from-states : (s r : Piped) (n : ℕ) (log times : List ℕ) (f h b : PipeAnswer) → f .addresses ≡ laid (s .addressLog) log → f .cycles ≡ laid (s .cycleLog) times
+      → n ≡ length (s .addressLog) → n ≡ length (s .cycleLog) → h ≡ pipeDone r (drop n (f .addresses)) (drop n (f .cycles)) → b ≡ pipeDone (before (s .addressLog) (s .cycleLog) r) log times
       → b ≡ pipeAnswer 0 (h .pipeline) (h .memory) (take n (f .addresses) ++ h .addresses) (take n (f .cycles) ++ h .cycles)
   unfolding pipeDone before
   from-states s r n log times f h b fa fy ea ey eh eb =
-      rw (eb, eh) (cc (laid-joined (s .addresses) (r .addresses) log, laid-joined (s .cycles) (r .cycles) times))
+      rw (eb, eh) (cc (laid-joined (s .addressLog) (r .addressLog) log, laid-joined (s .cycleLog) (r .cycleLog) times))
 
   -- the first run, its retirements, the second run, from where the first one left it and with the places that it left in the logs, and
   -- the run of both budgets

@@ -181,6 +181,6 @@ module _ {p₀ : Piped} {k : Pipeline} {m₀ : Memory} {first : ℕ} {a₀ y₀ 
 pub same-lengths : (k : Pipeline) (m a y a₀ y₀ : List ℕ) (p : Piped) → pipeAnswer 0 k m a y ≡ pipeDone p a₀ y₀ → (length a ≡ length a₀) × (length y ≡ length y₀)
 unfolding pipeDone
 same-lengths k m a y a₀ y₀ p e = (
-  ap (λ (t : PipeAnswer). length (t .addresses)) e ∙ laid-length (p .addresses) a₀,
-  ap (λ (t : PipeAnswer). length (t .cycles)) e ∙ laid-length (p .cycles) y₀,
+  ap (λ (t : PipeAnswer). length (t .addresses)) e ∙ laid-length (p .addressLog) a₀,
+  ap (λ (t : PipeAnswer). length (t .cycles)) e ∙ laid-length (p .cycleLog) y₀,
 )

@@ -107,9 +107,9 @@ module _ (short : Bool) (p : Pipeline) (size budget : ℕ) (s b r : Bool) (es : 
     no-refusal h k e l = cc
 
 -- LOGS
-pub written : (b : Bool) (k x : ℕ) (l l′ : List ℕ) → b ≡ true → l′ ≡ set l k x → l′ ≡ noted b k x l
+pub has-retired : (b : Bool) (k x : ℕ) (l l′ : List ℕ) → b ≡ true → l′ ≡ set l k x → l′ ≡ noted b k x l
 unfolding noted
-written b k x l l′ t e = cc
+has-retired b k x l l′ t e = cc
 
 pub not-retired : (b : Bool) (k x : ℕ) (l : List ℕ) → b ≡ false → l ≡ noted b k x l
 unfolding noted

@@ -18,14 +18,14 @@ use machine::Instruction;
 use machine::Machine;
 use machine::Status;
 ghost use mathlib.Core.Path.{_≡_};
-ghost use mathlib.Core.Bool.{Bool, true, false};
+ghost use mathlib.Core.Bool.{false};
 ghost use mathlib.Core.List.{[], _∷_};
 ghost use Prim.Native.Nat.{_+_, _≤_, _<_};
 ghost use Rattle.machine.specs.Types.{isBad};
 ghost use Rattle.machine.specs.Memory.{value as valueOf};
 ghost use Rattle.machine.specs.Stages.{decode};
-ghost use Rattle.machine.specs.Plain.{plainStart, plainOf, step as stepOf, steps};
-ghost use Rattle.machine.specs.Runs.{laid, lowest, sizeRefused, budgetRefused, plainLimit, plainAnswer, plainRun, plainStep};
+ghost use Rattle.machine.specs.Plain.{plainStart, plainOf, step as stepOf};
+ghost use Rattle.machine.specs.Runs.{lowest, sizeRefused, budgetRefused, plainLimit, plainAnswer, plainRun, plainStep};
 ghost use Rattle.plain.specs.Records.{withRegister, afterPerformed, afterStop, RunsTo};
 
 // What an entry answers: document 01's number, and the record.

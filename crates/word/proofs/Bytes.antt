@@ -1,5 +1,5 @@
 -- Numbers in bytes: what a store leaves, what a number read is below, and one byte more of each. Assumes nothing.
-use mathlib.Core.Bool.{Bool, true, false, cond}
+use mathlib.Core.Bool.{true, false}
 use mathlib.Core.List.{List}
 use mathlib.Core.Path.{_≡_, refl, _∙_}
 use Prim.Native.Nat.{ℕ, zero, suc, _+_, _-_, _*_, _/_, _%_, _^_, _≤_, _<_}
@@ -17,14 +17,6 @@ pub placed-length : (k : ℕ) (m : List ℕ) (a v : ℕ) → length (placed k m 
 unfolding placed
 placed-length zero m a v = refl
 placed-length (suc k) m a v = placed-length k (set m a (v % 256)) (a + 1) (v / 256) ∙ length-set m a (v % 256)
-
-pub store-length : (m : List ℕ) (a v : ℕ) → length (store m a v) ≡ length m
-unfolding store
-store-length m a v = by (inside m a)
-  where
-    by : (t : Bool) → length (cond t (placed 8 m a v) m) ≡ length m
-    by true = placed-length 8 m a v
-    by false = refl
 
 -- a word inside and one outside
 module _ (m : List ℕ) (a : ℕ) where

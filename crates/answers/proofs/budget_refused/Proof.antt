@@ -1,9 +1,9 @@
-use Rattle.answers.proofs.Ways.{none, above, rest}
+use Rattle.answers.proofs.Ways.{no-budget, above, rest}
 use Rattle.answers.proofs.budget_refused.Statement.{statement}
 use Rattle.answers.proofs.budget_refused.Tie as tie
 
 returns : tie.Need-returns
-returns c = none _ _ _ (c .if1 .taken)
+returns c = no-budget _ _ _ (c .if1 .taken)
 
 returns-2 : tie.Need-returns-2
 returns-2 c = above _ _ _ (c .before .if1 .left) (c .if2 .taken)

@@ -1,4 +1,4 @@
-use Rattle.pipe.proofs.Entries.{refused, performed, accepted}
+use Rattle.pipe.proofs.Entries.{refused, not-refused, accepted}
 use borrow.Author.Needs.{needs}
 use Rattle.pipe.proofs.perform.Statement.{statement}
 use Rattle.pipe.proofs.perform.Tie as tie
@@ -25,7 +25,7 @@ returns-2 : tie.Need-returns-2
 returns-2 c =
     let called = c .before .before .before .before .before .before in
     let tested = called .before .before .before .before in
-    performed _ _ _ _ _ _ _ (tested .before .refusal .ensures) (tested .if1 .left) _ _ _ _ (called .looped .ensures)
+    not-refused _ _ _ _ _ _ _ (tested .before .refusal .ensures) (tested .if1 .left) _ _ _ _ (called .looped .ensures)
 
 pub perform-spec : {M : Type 1} → statement M
 perform-spec =

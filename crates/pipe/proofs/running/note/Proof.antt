@@ -1,4 +1,4 @@
-use Rattle.pipe.proofs.Ways.{written, not-retired}
+use Rattle.pipe.proofs.Ways.{has-retired, not-retired}
 use borrow.Author.Needs.{needs}
 use Rattle.pipe.proofs.running.note.Statement.{statement}
 use Rattle.pipe.proofs.running.note.Tie as tie
@@ -10,7 +10,7 @@ same-length : tie.Need-same-length
 same-length c = search needs
 
 returns : tie.Need-returns
-returns c = search (needs, written)
+returns c = search (needs, has-retired)
 
 returns-2 : tie.Need-returns-2
 returns-2 c = search (needs, not-retired)
