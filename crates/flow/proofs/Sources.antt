@@ -18,7 +18,7 @@ use Rattle.machine.specs.Memory.{Memory, Registers, value, written}
 use Rattle.machine.specs.Stages.{decode, execute, access, newRegisters, sourceA, sourceB}
 use Rattle.machine.specs.Prediction.{asIn01, meets, loadUse}
 use Rattle.machine.specs.Pipeline.{afterE, afterM, pastResult, pastBoth, registersAfter, waitsBehind}
-use Rattle.stage.specs.Forwarding.{targetsM, targetsW, sourcesD, resultM, resultW, wordW, writtenBy, sourceBy, decodedBy}
+use Rattle.stage.specs.Forwarding.{targetsOf, targetsM, targetsW, sourcesD, resultM, resultW, wordW, writtenBy, sourceBy, decodedBy}
 use Rattle.flow.specs.Moving.{sourceIn, decodedIn}
 
 -- the access changes no target
@@ -28,14 +28,14 @@ targets-stay bubbleM bytes = refl
 targets-stay (inM x) bytes = refl
 
 pub written-is : (w : StageW) (r : Registers) → writtenBy (targetsW w) w r ≡ registersAfter w r
-unfolding writtenBy targetsW resultW wordW registersAfter newRegisters written
+unfolding writtenBy targetsW targetsOf resultW wordW registersAfter newRegisters written
 written-is bubbleW r = refl
 written-is (inW w) r = refl
 
 -- behind E and D: a bubble has 15 for its targets and sources, which meet nothing
 pub waits-is : (e : StageE) (c : Codes) (d : StageD)
     → (meets (targetsM (afterE e c) .loaded) (sourcesD d .a) || meets (targetsM (afterE e c) .loaded) (sourcesD d .b)) ≡ waitsBehind asIn01 e d
-unfolding targetsM afterE execute sourcesD waitsBehind loadUse meets
+unfolding targetsM targetsOf afterE execute sourcesD waitsBehind loadUse meets
 waits-is bubbleE c d = rw (meets-none (sourcesD d .a), meets-none (sourcesD d .b))
 waits-is (inE x) c bubbleD = refl
 waits-is (inE x) c (inD i) = refl
@@ -43,12 +43,12 @@ waits-is (inE x) c (inD i) = refl
 -- below 15 a match is plain equality, and at 15 there is none
 module _ (q : ℕ) where
   past-e : (x : StageM) (v : ℕ) → ltb q 15 ≡ true → cond (eqb (targetsM x .result) q) (resultM x) v ≡ pastResult x q v
-  unfolding targetsM resultM pastResult meets
+  unfolding targetsM targetsOf resultM pastResult meets
   past-e bubbleM v h = cc (meets-none q)
   past-e (inM x) v h = cc
 
   past-m : (y : StageW) (v : ℕ) → ltb q 15 ≡ true → cond (eqb (targetsW y .loaded) q) (wordW y) (cond (eqb (targetsW y .result) q) (resultW y) v) ≡ pastBoth y q v
-  unfolding targetsW resultW wordW pastBoth meets
+  unfolding targetsW targetsOf resultW wordW pastBoth meets
   past-m bubbleW v h = cc (meets-none q)
   past-m (inW y) v h = cc
 

@@ -14,7 +14,7 @@ use Rattle.machine.specs.Prediction.{asIn01, guess, predictedNext, mispredicted
 use Rattle.machine.specs.Pipeline.{afterE, afterM, codesAfter, memoryAfter, wrong, retInD, retInE, retInM, badInW, returnedTo, mended}
 use Rattle.stage.specs.declared.forwarding.Targets.{Targets}
 use Rattle.stage.specs.declared.forwarding.Sources.{Sources}
-use Rattle.stage.specs.Forwarding.{noTargets, targetsM, targetsW, sourcesD, resultM, resultW, wordW, writtenBy, sourceBy, decodedBy}
+use Rattle.stage.specs.Forwarding.{noTargets, targetsOf, targetsM, targetsW, sourcesD, resultM, resultW, wordW, writtenBy, sourceBy, decodedBy}
 
 -- THE WORK OF A STAGE
 pub e-bubble : (e : StageE) (c : Codes) → e ≡ bubbleE → bubbleM ≡ afterE e c
@@ -114,21 +114,25 @@ pub sources : (d : StageD) (i : Instruction) (p q : ℕ) → d ≡ inD i → p �
 unfolding sourcesD
 sources d i p q h e f = cc
 
-pub no-targets-m : (s : StageM) → s ≡ bubbleM → noTargets ≡ targetsM s
+pub targets : (i : Instruction) (h : Bool) (t l : ℕ) → t ≡ resultTarget i h → l ≡ loadedTarget i → record { result = t; loaded = l } ≡ targetsOf i h
+unfolding targetsOf
+targets i h t l p q = cc
+
+pub no-targets-m : (s : StageM) (t : Targets) → s ≡ bubbleM → t ≡ noTargets → t ≡ targetsM s
 unfolding targetsM
-no-targets-m s h = cc
+no-targets-m s t h p = cc
 
-pub targets-of-m : (s : StageM) (x : Executed) (t l : ℕ) → s ≡ inM x → t ≡ resultTarget (x .instruction) (x .holds) → l ≡ loadedTarget (x .instruction) → record { result = t; loaded = l } ≡ targetsM s
+pub targets-of-m : (s : StageM) (x : Executed) (t : Targets) → s ≡ inM x → t ≡ targetsOf (x .instruction) (x .holds) → t ≡ targetsM s
 unfolding targetsM
-targets-of-m s x t l h p q = cc
+targets-of-m s x t h p = cc
 
-pub no-targets-w : (w : StageW) → w ≡ bubbleW → noTargets ≡ targetsW w
+pub no-targets-w : (w : StageW) (t : Targets) → w ≡ bubbleW → t ≡ noTargets → t ≡ targetsW w
 unfolding targetsW
-no-targets-w w h = cc
+no-targets-w w t h p = cc
 
-pub targets-of-w : (w : StageW) (x : Accessed) (t l : ℕ) → w ≡ inW x → t ≡ resultTarget (x .instruction) (x .holds) → l ≡ loadedTarget (x .instruction) → record { result = t; loaded = l } ≡ targetsW w
+pub targets-of-w : (w : StageW) (x : Accessed) (t : Targets) → w ≡ inW x → t ≡ targetsOf (x .instruction) (x .holds) → t ≡ targetsW w
 unfolding targetsW
-targets-of-w w x t l h p q = cc
+targets-of-w w x t h p = cc
 
 pub no-result-m : (s : StageM) → s ≡ bubbleM → 0 ≡ resultM s
 unfolding resultM
@@ -243,6 +247,3 @@ enters-d d i j m w r f g h p = cc
 
 pub d-afresh : (d : StageD) (i j : Instruction) → d ≡ inD i → j ≡ i → inD j ≡ d
 d-afresh d i j h p = cc
-
-pub no-more-targets : (t : Targets) (b : Bool) → b ≡ true → noTargets ≡ cond b noTargets t
-no-more-targets t b h = cc

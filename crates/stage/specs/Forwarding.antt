@@ -1,8 +1,8 @@
 -- Sources and targets, taken out of the stages once, and decode by them.
 use Prim.Native.Nat.{ℕ}
-use mathlib.Core.Bool.{cond}
+use mathlib.Core.Bool.{Bool, cond}
 use lib.Dec.{eqb, ltb}
-use Rattle.stage.specs.Types.{StageD, bubbleD, inD, StageE, bubbleE, inE, StageM, bubbleM, inM, StageW, bubbleW, inW}
+use Rattle.stage.specs.Types.{Instruction, StageD, bubbleD, inD, StageE, bubbleE, inE, StageM, bubbleM, inM, StageW, bubbleW, inW}
 use Rattle.machine.specs.Memory.{Registers, value, written}
 use Rattle.machine.specs.Stages.{sourceA, sourceB, resultTarget, loadedTarget}
 use Rattle.stage.specs.declared.forwarding.Targets.{Targets}
@@ -11,13 +11,16 @@ use Rattle.stage.specs.declared.forwarding.Sources.{Sources}
 abbrev pub noTargets : Targets
 noTargets = record { result = 15; loaded = 15 }
 
+unfoldable pub targetsOf : Instruction → Bool → Targets
+targetsOf i h = record { result = resultTarget i h; loaded = loadedTarget i }
+
 unfoldable pub targetsM : StageM → Targets
 targetsM bubbleM = noTargets
-targetsM (inM x) = record { result = resultTarget (x .instruction) (x .holds); loaded = loadedTarget (x .instruction) }
+targetsM (inM x) = targetsOf (x .instruction) (x .holds)
 
 unfoldable pub targetsW : StageW → Targets
 targetsW bubbleW = noTargets
-targetsW (inW x) = record { result = resultTarget (x .instruction) (x .holds); loaded = loadedTarget (x .instruction) }
+targetsW (inW x) = targetsOf (x .instruction) (x .holds)
 
 unfoldable pub sourcesD : StageD → Sources
 sourcesD bubbleD = record { a = 15; b = 15 }

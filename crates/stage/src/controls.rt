@@ -1,6 +1,7 @@
 // The controls at the end of a clock: each stage is held, given a bubble, or goes on.
 use crate::addresses::predicted_next;
 use crate::forwarding::Targets;
+use crate::forwarding::no_targets;
 use crate::working::codes_after;
 use machine::Codes;
 use machine::Instruction;
@@ -92,14 +93,7 @@ pub fn next_m(fails: bool, executed: StageM) -> StageM
 pub fn next_targets(fails: bool, executed: Targets) -> Targets
     ensures { λ r. ⌜ r ≡ cond fails noTargets executed ⌝ }
 {
-    if fails {
-        Targets {
-            result: 15,
-            loaded: 15,
-        }
-    } else {
-        executed
-    }
+    if fails { no_targets() } else { executed }
 }
 
 // OPq behind a bad status in M sets no codes.

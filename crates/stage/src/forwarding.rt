@@ -4,12 +4,13 @@ use isa::decoding::result_target;
 use isa::decoding::source_a;
 use isa::decoding::source_b;
 use machine::Decoded;
+use machine::Instruction;
 use machine::StageD;
 use machine::StageE;
 use machine::StageM;
 use machine::StageW;
 ghost use mathlib.Core.Path.{_≡_};
-ghost use Rattle.stage.specs.Forwarding.{targetsM, targetsW, sourcesD, resultM, resultW, wordW, sourceBy, decodedBy};
+ghost use Rattle.stage.specs.Forwarding.{noTargets, targetsOf, targetsM, targetsW, sourcesD, resultM, resultW, wordW, sourceBy, decodedBy};
 
 // The registers that an instruction writes, 15 for none: worked out in E, and carried on from there.
 pub struct Targets {
@@ -35,21 +36,33 @@ pub fn sources_d(d: StageD) -> Sources
     }
 }
 
-// E's instruction after execution, or M's.
+pub fn no_targets() -> Targets
+    ensures { λ r. ⌜ r ≡ noTargets ⌝ }
+{
+    Targets {
+        result: 15,
+        loaded: 15,
+    }
+}
+
+fn targets_of(i: Instruction, holds: bool) -> Targets
+    ensures { λ r. ⌜ r ≡ targetsOf i holds ⌝ }
+{
+    Targets {
+        result: result_target(i, holds),
+        loaded: loaded_target(i),
+    }
+}
+
+// Of M's instruction, or of E's after execution.
 pub fn targets_m(m: StageM) -> Targets
     ensures { λ r. ⌜ r ≡ targetsM m ⌝ }
 {
     match m {
-        StageM::BubbleM => Targets {
-            result: 15,
-            loaded: 15,
-        },
+        StageM::BubbleM => no_targets(),
         StageM::InM(x) => {
             let i = x.instruction;
-            Targets {
-                result: result_target(i, x.holds),
-                loaded: loaded_target(i),
-            }
+            targets_of(i, x.holds)
         }
     }
 }
@@ -58,16 +71,10 @@ pub fn targets_w(w: StageW) -> Targets
     ensures { λ r. ⌜ r ≡ targetsW w ⌝ }
 {
     match w {
-        StageW::BubbleW => Targets {
-            result: 15,
-            loaded: 15,
-        },
+        StageW::BubbleW => no_targets(),
         StageW::InW(x) => {
             let i = x.instruction;
-            Targets {
-                result: result_target(i, x.holds),
-                loaded: loaded_target(i),
-            }
+            targets_of(i, x.holds)
         }
     }
 }

@@ -6,14 +6,14 @@ use Rattle.stage.proofs.forwarding.targets_m.Tie as tie
 enum-told : tie.Need-enum-told
 enum-told c = search needs
 
+no-targets-requires : tie.Need-no-targets-requires
+no-targets-requires c κs = search needs
+
 enum-known-m : tie.Need-enum-known-m
 enum-known-m c = search needs
 
-result-target-requires : tie.Need-result-target-requires
-result-target-requires c κs = search needs
-
-loaded-target-requires : tie.Need-loaded-target-requires
-loaded-target-requires c κs = search needs
+targets-of-requires : tie.Need-targets-of-requires
+targets-of-requires c κs = search needs
 
 returns : tie.Need-returns
 returns c = search (needs, no-targets-m)
@@ -24,10 +24,4 @@ returns-2 c = search (needs, targets-of-m)
 pub targets-m-spec : {M : Type 1} → statement M
 targets-m-spec =
     tie.close
-    (tie.spec
-    enum-told
-    enum-known-m
-    result-target-requires
-    loaded-target-requires
-    returns
-    returns-2)
+    (tie.spec enum-told no-targets-requires enum-known-m targets-of-requires returns returns-2)

@@ -6,14 +6,14 @@ use Rattle.stage.proofs.forwarding.targets_w.Tie as tie
 enum-told : tie.Need-enum-told
 enum-told c = search needs
 
+no-targets-requires : tie.Need-no-targets-requires
+no-targets-requires c κs = search needs
+
 enum-known-w : tie.Need-enum-known-w
 enum-known-w c = search needs
 
-result-target-requires : tie.Need-result-target-requires
-result-target-requires c κs = search needs
-
-loaded-target-requires : tie.Need-loaded-target-requires
-loaded-target-requires c κs = search needs
+targets-of-requires : tie.Need-targets-of-requires
+targets-of-requires c κs = search needs
 
 returns : tie.Need-returns
 returns c = search (needs, no-targets-w)
@@ -24,10 +24,4 @@ returns-2 c = search (needs, targets-of-w)
 pub targets-w-spec : {M : Type 1} → statement M
 targets-w-spec =
     tie.close
-    (tie.spec
-    enum-told
-    enum-known-w
-    result-target-requires
-    loaded-target-requires
-    returns
-    returns-2)
+    (tie.spec enum-told no-targets-requires enum-known-w targets-of-requires returns returns-2)
