@@ -15,7 +15,7 @@ use Rattle.machine.specs.Plain.{Plain, isStopped, fetched, decoded, executed, a
 use Rattle.machine.specs.Prediction.{Settings}
 use Rattle.machine.specs.Charges.{due}
 use Rattle.machine.specs.Pipeline.{Piped, waits, mispredicts, fails, returns, retInE, retInM, fetchAddress, fetchedNow, source, sourceM, sourceW, pastBoth, advanced}
-use Rattle.registers.specs.File.{value-after}
+use Rattle.laws.specs.Registers.{value-after}
 use Rattle.account.specs.Laws
 use Rattle.account.specs.Laws.{bit, wrongAt}
 use Rattle.account.specs.Signals

@@ -8,7 +8,7 @@ use native.Mathlib.Omega.{arith}
 use borrow.Author.Tests.{eqb-true}
 use lib.Dec.{eqb}
 use lib.ListN.{length}
-use Rattle.account.specs.Names.{Status, aok, hlt, adr, ins, Codes, Instruction, Decoded, Retired, inM, inW}
+use Rattle.account.specs.Names.{Status, hlt, adr, ins, Codes, Instruction, Decoded, Retired, inM, inW}
 use Rattle.machine.specs.Types.{isBad}
 use Rattle.machine.specs.Memory.{inside, store}
 use Rattle.machine.specs.Table.{rowOf, table, is, operation, cmov, jump, ret}
@@ -18,7 +18,7 @@ use Rattle.machine.specs.Plain.{Plain, isStopped, fetched, decoded, executed, a
 use Rattle.machine.specs.Prediction.{Settings, Rule, taken, guess, predictedNext, mispredicted, meets, loadUse}
 use Rattle.machine.specs.Charges.{reasonBehind, retiredOf, amount, reasonOf, charge, charges, due}
 use Rattle.machine.specs.Pipeline.{pastResult, pastBoth}
-use Rattle.registers.specs.File.{meets-none, length-written}
+use Rattle.laws.specs.Registers.{meets-none, length-written}
 
 -- 1 or 0
 unfoldable pub bit : Bool → ℕ
@@ -28,17 +28,6 @@ bit false = 0
 pub or-true : (b : Bool) → b || true ≡ true
 or-true true = refl
 or-true false = refl
-
-pub or-false : (a b : Bool) → a || b ≡ false → (a ≡ false) × (b ≡ false)
-or-false true b h = (h, cc)
-or-false false b h = (refl, h)
-
-pub sound : (x : Status) → isBad x ≡ false → x ≡ aok
-unfolding isBad
-sound aok h = refl
-sound hlt h = cc
-sound adr h = cc
-sound ins h = cc
 
 -- FETCH
 -- the fetched instruction carries its address, and one with a bad status is a nop
@@ -236,10 +225,6 @@ module _ (s : Plain) (r : isStopped s ≡ false) where
           go (a-jump a b d) = cc address-next
           go (a-return a b d) = cc (in-executed s)
           go (another a b) = cc (in-executed s)
-
-pub step-still : (s : Plain) → isStopped s ≡ true → step s ≡ s
-unfolding step
-step-still s h = cc
 
 pub stopped-before : (s : Plain) → isStopped (step s) ≡ false → isStopped s ≡ false
 unfolding step

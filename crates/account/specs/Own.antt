@@ -17,7 +17,8 @@ use Rattle.account.specs.Laws.{bit}
 use Rattle.account.specs.Signals
 use Rattle.account.specs.Signals.{waitsFor}
 use Rattle.account.specs.Timing.{total, total-counted}
-use Rattle.account.specs.Retirement.{Books, clock-still, clock-bubble, clock-retires, clock-stops, books-retires, books-stops}
+use Rattle.laws.specs.Stops.{clock-still}
+use Rattle.account.specs.Retirement.{Books, clock-bubble, clock-retires, clock-stops, books-retires, books-stops}
 
 -- as an executed instruction will retire
 abbrev retiring : Executed → Retired

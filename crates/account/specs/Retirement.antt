@@ -18,10 +18,6 @@ pub record Books (g : Settings) (p p′ : Piped) (w : Accessed) : Type 0 where
   pub cycles : p′ .cycleLog ≡ p .cycleLog ++ (p .pipeline .cycles + 1) ∷ []
 
 module _ (g : Settings) (p : Piped) where
-  pub clock-still : isBad (p .pipeline .status) ≡ true → clock g p ≡ p
-  unfolding clock
-  clock-still h = cc
-
   module _ (h : isBad (p .pipeline .status) ≡ false) where
     pub clock-bubble : p .pipeline .w ≡ bubbleW → clock g p ≡ advanced g p
     unfolding clock clockBy

@@ -10,7 +10,8 @@ use Rattle.machine.specs.Stages.{decode, execute, access, newCodes, newMemory, 
 use Rattle.machine.specs.Plain.{Plain, fetched, decoded, executed, accessed}
 use Rattle.machine.specs.Prediction.{Settings, predictedNext, mispredicted, meets, loadUse}
 use Rattle.machine.specs.Pipeline.{Piped, afterE, afterM, codesAfter, memoryAfter, registersAfter, pastResult, pastBoth, sourceW, sourceM, source, waitsBehind, waits, wrong, mispredicts, retInD, retInE, retInM, returns, badInW, fails, returnedTo, mended, fetchAddress, fetchedNow, nextF, nextD, decodedD, nextE, nextM, nextCodes, advanced}
-use Rattle.account.specs.Laws.{or-true, or-false, wrongAt}
+use Rattle.account.specs.Laws.{or-true, wrongAt}
+use Rattle.laws.specs.Tests.{neither}
 
 -- the instruction in D is one for which j has to wait
 unfoldable pub waitsFor : Settings → StageD → Instruction → Bool
@@ -255,7 +256,7 @@ module _ (g : Settings) (p : Piped) where
       go bubbleE d h w = (refl, refl)
       go (inE x) d h w =
           let k : loadUse g (x .instruction) i ≡ false = cc in
-          or-false (meets (loadedTarget (x .instruction)) (sourceA i)) (meets (loadedTarget (x .instruction)) (sourceB i)) k
+          neither (meets (loadedTarget (x .instruction)) (sourceA i)) (meets (loadedTarget (x .instruction)) (sourceB i)) k
 
   -- the wait of the next clock, when the instruction i has been fetched
   pub waits-next : (i : Instruction) → waits g p ≡ false → mispredicts g p ≡ false → advanced g p .pipeline .d ≡ inD i → waits g (advanced g p) ≡ waitsFor g (p .pipeline .d) i

@@ -21,7 +21,8 @@ use Rattle.account.specs.Relation.{Known, Beyond, AtM, AtW, readyF, empt
 use Rattle.account.specs.Clock
 use Rattle.account.specs.Sight
 use Rattle.account.specs.Timing.{Older, older-later, older-next, exactly, exactly-stopped, due-order, late-W}
-use Rattle.account.specs.Retirement.{Books, clock-still, clock-bubble, clock-retires, clock-stops, books-retires, books-stops}
+use Rattle.laws.specs.Stops.{sound, clock-still}
+use Rattle.account.specs.Retirement.{Books, clock-bubble, clock-retires, clock-stops, books-retires, books-stops}
 
 module _ (g : Settings) (s : Plain) (k : ℕ) where
   reason-kept : (n : ℕ) → reasonFrom g (keptOf s n) (fetched (steps s n)) ≡ reasonOf g s (suc n)
@@ -90,7 +91,7 @@ module _ (g : Settings) (s : Plain) (k : ℕ) where
 
         go : Now p c n → Agrees g s p c n
         go (going h y v a) =
-            agrees-with (exactly g s (i .older) (λ _. late (late-W g s (suc k) p c n a))) (W-registers p c n a) (h ∙ sym (Laws.sound (steps s n .machine .status) (W-runs p c n a))) (λ _. (v, y))
+            agrees-with (exactly g s (i .older) (λ _. late (late-W g s (suc k) p c n a))) (W-registers p c n a) (h ∙ sym (sound (steps s n .machine .status) (W-runs p c n a))) (λ _. (v, y))
             (λ b. absurd (true≢false (sym b ∙ ap isBad h)))
         go (ended h st r cd m y) = agrees-with (exactly-stopped g s (i .older) h) r st (λ b. absurd (true≢false (sym h ∙ (sym (ap isBad st) ∙ b)))) (λ _. (m, cd, y))
 

@@ -20,7 +20,9 @@ use Rattle.machine.specs.Pipeline.{pipedOf, clocks}
 use Rattle.machine.specs.Premise.{Untouched}
 use Rattle.machine.specs.Runs.{laid, sizeRefused, budgetRefused, logRefused, recordRefused, plainLimit, pipeLimit, plainAnswer, pipeAnswer, lowest, plainRefusal, PlainAnswer, plainDone, plainBy, plainRun, pipeRefusal, PipeAnswer, pipeDone, pipeBy, pipeRun}
 use Rattle.account.specs.Statement.{Start, plainFrom, pipedFrom, DueBy, keptOf, Agrees}
-use Rattle.account.specs.Laws.{or-false, step-logs, step-still}
+use Rattle.account.specs.Laws.{step-logs}
+use Rattle.laws.specs.Tests.{neither}
+use Rattle.columns.specs.Columns.{stays as step-still}
 use Rattle.account.specs.Timing.{up-to, due-most}
 use Rattle.account.specs.Uses.{due-only, due-stopped}
 use Rattle.account.specs.Prefix.{Begins, begins-all, logs-begin}
@@ -125,7 +127,7 @@ plain-ran k m budget log h =
     let n = plainRefusal (length m) (k .count) budget (length log ∷ []) in
     let r = ran (λ (x : PlainAnswer). x .number) n (plainDone (steps (plainOf k m) budget) log) (plainAnswer n k m log) refl h in
     let f = logs-fit (sizeRefused (length m)) (budgetRefused plainLimit (k .count) budget) (ltb (length log) budget || false) 0 (r .1) in
-    (r .0, ltb-false (length log) budget (or-false (ltb (length log) budget) false f .0))
+    (r .0, ltb-false (length log) budget (neither (ltb (length log) budget) false f .0))
 
 pipe-ran : (g : Settings) (k : Pipeline) (m : Memory) (budget : ℕ) (a y : List ℕ) → pipeRun g k m budget a y .number ≡ 0
     → (pipeRun g k m budget a y ≡ pipeDone (clocks g (pipedOf k m) budget) a y) × (budget ≤ length a) × (budget ≤ length y)
@@ -135,8 +137,8 @@ pipe-ran g k m budget a y h =
     let r = ran (λ (x : PipeAnswer). x .number) n (pipeDone (clocks g (pipedOf k m) budget) a y) (pipeAnswer n k m a y) refl h in
     let b = ltb (length y) budget || false in
     let f = logs-fit (sizeRefused (length m)) (budgetRefused pipeLimit (k .cycles) budget) (ltb (length a) budget || b) (cond (recordRefused k) 5 0) (r .1) in
-    let e = or-false (ltb (length a) budget) b f in
-    (r .0, ltb-false (length a) budget (e .0), ltb-false (length y) budget (or-false (ltb (length y) budget) false (e .1) .0))
+    let e = neither (ltb (length a) budget) b f in
+    (r .0, ltb-false (length a) budget (e .0), ltb-false (length y) budget (neither (ltb (length y) budget) false (e .1) .0))
 
 -- "the limit is 262,145, which covers any 65,536 instructions"
 pub limit-covers : (g : Settings) (s : Plain) → due g s plainLimit ≤ pipeLimit

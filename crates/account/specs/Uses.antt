@@ -1,5 +1,5 @@
 -- Demand 3 as it is used.
-use Prim.Native.Nat.{ℕ, zero, suc, _+_, _-_, _≤_, _<_}
+use Prim.Native.Nat.{ℕ, suc, _+_, _-_, _≤_, _<_}
 use mathlib.Core.Bool.{Bool, true, false}
 use mathlib.Core.Path.{_≡_, refl, ap, sym, _∙_, subst}
 use native.Mathlib.Omega.{arith}
@@ -9,12 +9,12 @@ use Rattle.machine.specs.Types.{isBad}
 use Rattle.machine.specs.Plain.{Plain, isStopped, steps}
 use Rattle.machine.specs.Prediction.{Settings}
 use Rattle.machine.specs.Charges.{due}
-use Rattle.machine.specs.Pipeline.{Piped, clock, clocks}
+use Rattle.machine.specs.Pipeline.{Piped, clocks}
 use Rattle.machine.specs.Premise.{Untouched}
 use Rattle.account.specs.Statement.{Start, plainFrom, pipedFrom, DueBy, Agrees}
 use Rattle.account.specs.Sight.{runs-before}
 use Rattle.account.specs.Timing.{Older, exactly, exactly-stopped, due-grows, due-order}
-use Rattle.account.specs.Retirement.{clock-still}
+use Rattle.laws.specs.Stops.{stays}
 use Rattle.account.specs.Theorem.{demand3}
 
 -- WHICH ARE DUE
@@ -85,16 +85,6 @@ same-answer g s p q c m n a b = go (subst (λ (x : ℕ). Agrees g s p c x) (due-
         times false h = a .running h ∙ sym (b .running (sym (ap isBad same) ∙ h))
 
 -- from a stop on a clock changes nothing
-pub stays : (g : Settings) (p : Piped) (c d : ℕ) → isBad (clocks g p c .pipeline .status) ≡ true → clocks g p (d + c) ≡ clocks g p c
-unfolding clocks
-stays g p c zero b =
-    let e : 0 + c ≡ c = omega arith in
-    rw e
-stays g p c (suc d) b =
-    let e : suc d + c ≡ suc (d + c) = omega arith in
-    let i = stays g p c d b in
-    rw e (ap (clock g) i ∙ clock-still g (clocks g p c) b)
-
 module _ (g : Settings) (t : Start) (l : length (t .registers) ≡ 15) where
   -- THE UNBOUNDED FORM: where the premise holds throughout, after every clock
   pub always : ((K : ℕ) → Untouched (plainFrom t) K) → (c : ℕ) → (n : ℕ) × Agrees g (plainFrom t) (clocks g (pipedFrom t) c) c n

@@ -1,6 +1,6 @@
 -- Laws of refusals: what a number 0 says of the tests. Assumes nothing.
 use mathlib.Core.Path.{_≡_, refl}
-use mathlib.Core.Bool.{Bool, true, false, cond, _||_, true≢false}
+use mathlib.Core.Bool.{Bool, true, false, cond}
 use Prim.Native.Nat.{ℕ, suc}
 use native.Mathlib.Omega.{arith}
 
@@ -8,8 +8,3 @@ use native.Mathlib.Omega.{arith}
 pub failed : (t : Bool) (n x : ℕ) → cond t (suc n) x ≡ 0 → (t ≡ false) × (x ≡ 0)
 failed true n x e = absurd (omega arith)
 failed false n x e = (refl, e)
-
--- where neither of two tests holds, the second does not
-pub or-right : (a b : Bool) → a || b ≡ false → b ≡ false
-or-right true b h = absurd (true≢false h)
-or-right false b h = h

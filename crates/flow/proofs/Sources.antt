@@ -4,7 +4,7 @@ use mathlib.Core.Bool.{Bool, true, false, cond, _||_}
 use Prim.Native.Nat.{ℕ}
 use lib.Dec.{ltb, eqb}
 use lib.ListN.{length}
-use Rattle.registers.specs.File.{meets-none, value-after-w}
+use Rattle.laws.specs.Registers.{meets-none, value-after-w}
 use Rattle.machine.specs.declared.Codes.{Codes}
 use Rattle.machine.specs.declared.StageD.{StageD}
 use Rattle.machine.specs.declared.StageD.the-variants.{BubbleD as bubbleD, InD as inD}

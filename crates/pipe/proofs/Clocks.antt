@@ -5,7 +5,6 @@ use mathlib.Core.List.{List, _++_}
 use Prim.Native.Nat.{ℕ}
 use Rattle.machine.specs.declared.Pipeline.{Pipeline}
 use Rattle.machine.specs.declared.Status.{Status}
-use Rattle.machine.specs.declared.Status.the-variants.{Aok as aok, Hlt as hlt, Adr as adr, Ins as ins}
 use Rattle.machine.specs.declared.StageD.{StageD}
 use Rattle.machine.specs.declared.StageD.the-variants.{BubbleD as bubbleD, InD as inD}
 use Rattle.machine.specs.declared.StageW.{StageW}
@@ -14,6 +13,7 @@ use Rattle.machine.specs.Types.{isBad}
 use Rattle.machine.specs.Memory.{Memory, Registers}
 use Rattle.machine.specs.Prediction.{asIn01}
 use Rattle.machine.specs.Pipeline.{Piped, afterE, afterM, source, sourceM, sourceW, decodedD, badInW, memoryAfter, registersAfter, lastAfter, retiredAfter, kindsAfter, logged, advanced, stoppedIn, clockBy, clock, waits, mispredicts, returns, fails, fetchAddress, fetchedNow, nextF, nextD, nextE, nextM, nextCodes}
+use Rattle.laws.specs.Stops.{sound}
 use Rattle.retiring.specs.Retiring.{statusAfter, tallyAfter}
 use Rattle.retiring.specs.declared.Tally.{Tally}
 use Rattle.flow.specs.declared.Flow.{Flow}
@@ -23,13 +23,6 @@ use Rattle.pipe.specs.Parts.{whole}
 -- the record, its memory and its logs
 abbrev pub piped : Pipeline → Memory → List ℕ → List ℕ → Piped
 piped k m es ys = record { pipeline = k; memory = m; addressLog = es; cycleLog = ys }
-
-good-status : (s : Status) → isBad s ≡ false → s ≡ aok
-unfolding isBad
-good-status aok h = refl
-good-status hlt h = cc
-good-status adr h = cc
-good-status ins h = cc
 
 pub bad-after : (w : StageW) → isBad (statusAfter w) ≡ badInW w
 unfolding badInW statusAfter isBad
@@ -43,11 +36,11 @@ after t es ys w f r m =
     piped (whole f t′ (statusAfter w) r) m (es ++ logged w (t′ .last)) (ys ++ logged w (t′ .cycles))
 
 -- the flow's order of sources is that of the definitions
-decoded-is : (f : Flow) (t : Tally) (x : Status) (r : Registers) (m : Memory) (es ys : List ℕ) (d : StageD)
+decoded-same : (f : Flow) (t : Tally) (x : Status) (r : Registers) (m : Memory) (es ys : List ℕ) (d : StageD)
     → decodedIn d (afterE (f .e) (f .codes)) (afterM (f .m) m) (f .w) r ≡ decodedD (piped (whole f t x r) m es ys) d
 unfolding decodedIn decodedD sourceIn source sourceM sourceW whole
-decoded-is f t x r m es ys bubbleD = refl
-decoded-is f t x r m es ys (inD i) = refl
+decoded-same f t x r m es ys bubbleD = refl
+decoded-same f t x r m es ys (inD i) = refl
 
 module _ (f : Flow) (t : Tally) (x : Status) (r : Registers) (m : Memory) (es ys : List ℕ) where
   abbrev now : Piped
@@ -69,4 +62,4 @@ module _ (f : Flow) (t : Tally) (x : Status) (r : Registers) (m : Memory) (es ys
 
   pub goes : isBad x ≡ false → badInW (f .w) ≡ false → clock asIn01 now ≡ after t es ys (f .w) (flowAfter f r m) (registersAfter (f .w) r) (memoryAfter (f .m) m)
   unfolding clock advanced whole tallyAfter flowAfter shiftedOf signalsOf signalsWith fetchedIn waits mispredicts returns fails fetchAddress fetchedNow nextF nextD nextE nextM nextCodes
-  goes h b = rw h (goes-by (f .w) b ∙ rw (b, good-status (statusAfter (f .w)) (bad-after (f .w) ∙ b), decoded-is f t x r m es ys (f .d)))
+  goes h b = rw h (goes-by (f .w) b ∙ rw (b, sound (statusAfter (f .w)) (bad-after (f .w) ∙ b), decoded-same f t x r m es ys (f .d)))

@@ -14,7 +14,8 @@ use Rattle.machine.specs.Prediction.{asIn01}
 use Rattle.machine.specs.Pipeline.{pipedOf, clocks}
 use Rattle.machine.specs.Runs.{sizeRefused, budgetRefused, logRefused, refusedInD, refusedInE, refusedInM, refusedInW, refusedKept, countsRefused, recordRefused, lowest, pipeLimit, pipeRefusal, PipeAnswer, pipeAnswer, pipeDone, pipeBy, pipeRun, pipeRunUnlogged, pipeClock}
 use Rattle.pipe.specs.Parts.{refusalBy, answerBy}
-use Rattle.answers.specs.Refusals.{or-right}
+use Rattle.answers.specs.Refusals.{failed}
+use Rattle.laws.specs.Tests.{neither}
 
 module _ (short : Bool) (k : Pipeline) (m : Memory) (budget : ℕ) (a y : List ℕ) (n : ℕ) (e : n ≡ refusalBy short k (length m) budget) where
   pub refused : (n ≡ 0 → ⊥) → pipeAnswer n k m a y ≡ answerBy short k m budget a y
@@ -27,21 +28,16 @@ module _ (short : Bool) (k : Pipeline) (m : Memory) (budget : ℕ) (a y : List �
   not-refused h p m′ a′ y′ d = cc (eq-eqb n 0 h)
 
 -- no refusal: the budget is within the limit, and the record's counts are within its cycles
-none-true : (s b l r : Bool) → lowest ((1, s) ∷ (3, b) ∷ (4, l) ∷ (5, r) ∷ []) ≡ 0 → (b ≡ false) × (r ≡ false)
-unfolding lowest
-none-true true b l r h = absurd (omega arith)
-none-true false true l r h = absurd (omega arith)
-none-true false false true r h = absurd (omega arith)
-none-true false false false true h = absurd (omega arith)
-none-true false false false false h = (refl, refl)
-
 pub accepted : (short : Bool) (k : Pipeline) (size budget n : ℕ) → n ≡ refusalBy short k size budget → n ≡ 0 → (k .cycles + budget ≤ 262145) × (countsRefused k ≡ false)
-unfolding refusalBy budgetRefused recordRefused
+unfolding refusalBy lowest budgetRefused recordRefused
 accepted short k size budget n e h =
-    let f = none-true (sizeRefused size) (budgetRefused pipeLimit (k .cycles) budget) short (recordRefused k) (sym e ∙ h) in (
-      omega (arith, ltb-false pipeLimit (k .cycles + budget) (or-right (eqb budget 0) _ (f .0))),
-      or-right (refusedKept (k .kept)) _ (or-right (refusedInW (k .w)) _ (or-right (refusedInM (k .m)) _ (or-right (refusedInE (k .e)) _ (or-right (refusedInD (k .d)) _ (f .1))))),
-    )
+    let size-fits = failed (sizeRefused size) 0 _ (sym e ∙ h) in
+    let budget-fits = failed (budgetRefused pipeLimit (k .cycles) budget) 2 _ (size-fits .1) in
+    let logs-fit = failed short 3 _ (budget-fits .1) in
+    let d = neither (refusedInD (k .d)) _ (failed (recordRefused k) 4 _ (logs-fit .1) .0) in
+    let m = neither (refusedInM (k .m)) _ (neither (refusedInE (k .e)) _ (d .1) .1) in
+    let kept = neither (refusedKept (k .kept)) _ (neither (refusedInW (k .w)) _ (m .1) .1) in
+    (omega (arith, ltb-false pipeLimit (k .cycles + budget) (neither (eqb budget 0) _ (budget-fits .0) .1)), kept .1)
 
 -- WITH LOGS AND WITHOUT
 by-logs : (logs : List ℕ) (short : Bool) (k : Pipeline) (m : Memory) (budget : ℕ) (a y : List ℕ) → short ≡ logRefused logs budget

@@ -1,16 +1,16 @@
 -- What holds while a run goes on, from its first clock to its end. Assumes nothing.
 use mathlib.Core.Path.{_≡_, refl, ap, sym, _∙_}
-use mathlib.Core.Bool.{Bool, true, false, _||_}
+use mathlib.Core.Bool.{Bool, true, false}
 use mathlib.Core.List.{List, [], _++_, append-nil}
-use Prim.Native.Nat.{ℕ, zero, suc, _+_, _-_, _*_, _≤_, _<_}
-use native.Mathlib.Nat.{zero-add, suc-add}
+use Prim.Native.Nat.{ℕ, _+_, _-_, _*_, _≤_, _<_}
 use native.Mathlib.Numerals.{add-one}
 use native.Mathlib.Omega.{arith}
 use lib.Dec.{ltb}
 use lib.ListN.{length, length-append}
 use borrow.Author.Tests.{ltb-false}
-use Rattle.registers.specs.File.{length-after-w}
-use Rattle.answers.specs.Refusals.{or-right}
+use Rattle.laws.specs.Registers.{length-after-w}
+use Rattle.laws.specs.Tests.{neither}
+use Rattle.laws.specs.Stops.{stays}
 use Rattle.answers.specs.Logs.{laid-more, laid-length}
 use Rattle.machine.specs.declared.Pipeline.{Pipeline}
 use Rattle.machine.specs.declared.Status.{Status}
@@ -20,7 +20,7 @@ use Rattle.machine.specs.declared.StageW.{StageW}
 use Rattle.machine.specs.declared.StageW.the-variants.{BubbleW as bubbleW, InW as inW}
 use Rattle.machine.specs.Types.{isBad}
 use Rattle.machine.specs.Memory.{Memory}
-use Rattle.machine.specs.Prediction.{Settings, asIn01}
+use Rattle.machine.specs.Prediction.{asIn01}
 use Rattle.machine.specs.Charges.{Reason, free, waited, wronglyGuessed, returned, counted, reasonFrom}
 use Rattle.machine.specs.Pipeline.{Piped, pipedOf, badInW, memoryAfter, registersAfter, retiredAfter, kindsAfter, logged, clock, clocks}
 use Rattle.machine.specs.Runs.{laid, countsRefused, PipeAnswer, pipeAnswer, pipeDone}
@@ -76,21 +76,18 @@ tally-small n t w h =
       returned = three .returned;
     }
 
-or-left : (a b : Bool) → (a || b) ≡ false → a ≡ false
-or-left true b h = cc
-or-left false b h = refl
-
 small-first : (k : Pipeline) → countsRefused k ≡ false → k .cycles ≤ 262145 → Small 262146 (tallyOf k)
 unfolding countsRefused tallyOf
 small-first k h c =
-    let rest = or-right (ltb (k .cycles) (k .retired)) _ h in
-    let rest2 = or-right (ltb (k .cycles) (k .kinds .loaduse)) _ rest in
+    let all = neither (ltb (k .cycles) (k .retired)) _ h in
+    let kinds = neither (ltb (k .cycles) (k .kinds .loaduse)) _ (all .1) in
+    let last = neither (ltb (k .cycles) (k .kinds .mispredict)) _ (kinds .1) in
     record {
-      retired = omega (arith, ltb-false (k .cycles) (k .retired) (or-left _ _ h));
+      retired = omega (arith, ltb-false (k .cycles) (k .retired) (all .0));
       cycles = omega arith;
-      loaduse = omega (arith, ltb-false (k .cycles) (k .kinds .loaduse) (or-left _ _ rest));
-      mispredict = omega (arith, ltb-false (k .cycles) (k .kinds .mispredict) (or-left _ _ rest2));
-      returned = omega (arith, ltb-false (k .cycles) (k .kinds .returned) (or-right (ltb (k .cycles) (k .kinds .mispredict)) _ rest2));
+      loaduse = omega (arith, ltb-false (k .cycles) (k .kinds .loaduse) (kinds .0));
+      mispredict = omega (arith, ltb-false (k .cycles) (k .kinds .mispredict) (last .0));
+      returned = omega (arith, ltb-false (k .cycles) (k .kinds .returned) (last .1));
     }
 
 pub small-enough : (n : ℕ) (t : Tally) → n < 262145 → Small (262146 + n * 3) t → Small 2000000 t
@@ -149,16 +146,6 @@ module _ {p₀ : Piped} {first : ℕ} {a₀ y₀ : List ℕ} {n : ℕ} {f : Flow
   here-stopped w = (here-after f r m (stops f t x r m (h .entries) (h .times) (cc) (cc)) (h .ahead) (h .long), cc (bad-after (f .w)))
 
 -- THE END
--- from a stop on a clock changes nothing
-stopped : (g : Settings) (p : Piped) → isBad (p .pipeline .status) ≡ true → clock g p ≡ p
-unfolding clock
-stopped g p h = rw h
-
-stays : (g : Settings) (p : Piped) (n k : ℕ) → isBad (clocks g p n .pipeline .status) ≡ true → clocks g p (k + n) ≡ clocks g p n
-unfolding clocks
-stays g p n zero h = rw zero-add
-stays g p n (suc k) h = rw (suc-add k n) (ap (clock g) (stays g p n k h) ∙ stopped g (clocks g p n) h)
-
 pub same-start : {k : Pipeline} {f : Flow} {t : Tally} {m : Memory} → f ≡ flowOf k → t ≡ tallyOf k → pipedOf (whole f t (k .status) (k .registers)) m ≡ pipedOf k m
 unfolding whole flowOf tallyOf
 same-start ef et = rw (ef, et)

@@ -116,7 +116,7 @@ unfolding noted
 not-retired b k x l t = cc
 
 -- THE RECORD
-pub taken-apart : (p : Pipeline) (t u : Targets) → t ≡ targetsM (p .m) → u ≡ targetsW (p .w)
+pub flow-of-record : (p : Pipeline) (t u : Targets) → t ≡ targetsM (p .m) → u ≡ targetsW (p .w)
     → record { predicted = p .predicted; d = p .d; e = p .e; m = p .m; w = p .w; codes = p .codes; targets = record { m = t; w = u } } ≡ flowOf p
 unfolding flowOf aheadOf
-taken-apart p t u e f = cc
+flow-of-record p t u e f = cc

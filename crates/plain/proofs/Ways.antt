@@ -1,6 +1,6 @@
 -- One law for each way out of a function, over variables for what its callees gave. Assumes nothing.
 use mathlib.Core.Path.{_≡_, refl, ap, sym, _∙_}
-use mathlib.Core.Bool.{Bool, true, false, not, _||_}
+use mathlib.Core.Bool.{Bool, true, false, not}
 use mathlib.Core.List.{List, [], _∷_, _++_}
 use Prim.Native.Nat.{ℕ, _+_, _≤_, _<_}
 use native.Mathlib.Omega.{arith}
@@ -23,7 +23,8 @@ use Rattle.machine.specs.Stages.{sourceA, sourceB, decode, execute, access, new
 use Rattle.machine.specs.Plain.{Plain, plainOf, isStopped, fetched, decoded, executed, accessed, performed, stoppedBy, step, steps}
 use Rattle.machine.specs.Runs.{laid, lowest, sizeRefused, budgetRefused, logRefused, plainLimit, plainRefusal, plainAnswer, plainDone, plainBy, plainRun, plainStep}
 use Rattle.plain.specs.Records.{withRegister, afterPerformed, afterStop, RunsTo}
-use Rattle.answers.specs.Refusals.{failed, or-right}
+use Rattle.answers.specs.Refusals.{failed}
+use Rattle.laws.specs.Tests.{neither, or-false}
 use Rattle.answers.specs.Logs.{laid-more, laid-length}
 use Rattle.plain.specs.Steps.{bare, behind, step-bare, step-logs, step-counts, still-on}
 
@@ -157,10 +158,6 @@ module _ (size count budget : ℕ) (short x : Bool) (hx : x ≡ sizeRefused size
     refused-0 u v = cc
 
 -- THE ENTRIES, by the lengths of the logs that are lent
-or-false : (t : Bool) → t || false ≡ t
-or-false true = refl
-or-false false = refl
-
 pub one-log : (size count budget long n : ℕ) → n ≡ lowest ((1, sizeRefused size) ∷ (3, budgetRefused plainLimit count budget) ∷ (4, ltb long budget) ∷ [])
     → n ≡ plainRefusal size count budget (long ∷ [])
 unfolding plainRefusal logRefused
@@ -181,7 +178,7 @@ unfolding lowest budgetRefused
 within-limit size count budget n short h z =
     let p = failed (sizeRefused size) 0 _ (sym h ∙ z) in
     let q = failed (budgetRefused plainLimit count budget) 2 _ (p .1) in
-    ltb-false plainLimit (count + budget) (or-right (eqb budget 0) (ltb plainLimit (count + budget)) (q .0))
+    ltb-false plainLimit (count + budget) (neither (eqb budget 0) (ltb plainLimit (count + budget)) (q .0) .1)
 
 module _ (logs : List ℕ) (k : Machine) (m : Memory) (budget : ℕ) (log : List ℕ) (n : ℕ) (h : n ≡ plainRefusal (length m) (k .count) budget logs) where
   pub refuses : (n ≡ 0 → ⊥) → plainAnswer n k m log ≡ plainBy logs k m budget log

@@ -1,6 +1,6 @@
 -- Signed overflow, once over the width: each test that the code makes in place of a sum or a difference. Assumes nothing.
 use mathlib.Core.Bool.{Bool, true, false, cond, _||_}
-use mathlib.Core.Path.{_≡_, refl, sym, _∙_}
+use mathlib.Core.Path.{_≡_, sym, _∙_}
 use Prim.Native.Nat.{ℕ, suc, _+_, _-_, _^_, _<_, _≤_}
 use native.Mathlib.Omega.{arith}
 use borrow.Author.Tests.{le-ltb}
@@ -10,12 +10,9 @@ use lib.Signed.{ltZ}
 use mir.Syntax.{Width}
 use mir.Val.{bits, hbits, toZ, ofZ, SFits}
 use mir.ValLaws.{pow-bits, toZ-pos, toZ-ofZ}
+use Rattle.laws.specs.Tests.{or-false}
 use Rattle.machine.specs.Words.{outside}
 use Rattle.word.proofs.Integers.{pos-sub, negsuc-sub, neg-sub, same-sub, sum-sub, lt-sub, mag-sub, same-test, between, by-sign}
-
-or-false : (t : Bool) → t || false ≡ t
-or-false true = refl
-or-false false = refl
 
 module _ (w : Width) where
   -- one past the upper end, and the two ends

@@ -1,4 +1,4 @@
-use Rattle.pipe.proofs.Ways.{taken-apart}
+use Rattle.pipe.proofs.Ways.{flow-of-record}
 use borrow.Author.Needs.{needs}
 use Rattle.pipe.proofs.running.flow_of.Statement.{statement}
 use Rattle.pipe.proofs.running.flow_of.Tie as tie
@@ -10,7 +10,7 @@ targets-w-requires : tie.Need-targets-w-requires
 targets-w-requires c κs = search needs
 
 returns : tie.Need-returns
-returns c = search (needs, taken-apart)
+returns c = search (needs, flow-of-record)
 
 pub flow-of-spec : {M : Type 1} → statement M
 flow-of-spec = tie.close (tie.spec targets-m-requires targets-w-requires returns)

@@ -1,4 +1,4 @@
--- The register file after a write, and what meets no target.
+-- The register file after a write, and a target that meets no source.
 use Prim.Native.Nat.{ℕ}
 use mathlib.Core.Bool.{Bool, true, false, cond, _&&_}
 use mathlib.Core.Path.{_≡_, refl, ap, sym, _∙_}

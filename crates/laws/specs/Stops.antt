@@ -1,0 +1,27 @@
+-- What a stop leaves alone.
+use Prim.Native.Nat.{ℕ, zero, suc, _+_}
+use native.Mathlib.Nat.{zero-add, suc-add}
+use mathlib.Core.Path.{_≡_, refl, ap, _∙_}
+use mathlib.Core.Bool.{true, false}
+use Rattle.machine.specs.declared.Status.{Status}
+use Rattle.machine.specs.declared.Status.the-variants.{Aok as aok, Hlt as hlt, Adr as adr, Ins as ins}
+use Rattle.machine.specs.Types.{isBad}
+use Rattle.machine.specs.Prediction.{Settings}
+use Rattle.machine.specs.Pipeline.{Piped, clock, clocks}
+
+pub sound : (x : Status) → isBad x ≡ false → x ≡ aok
+unfolding isBad
+sound aok h = refl
+sound hlt h = cc
+sound adr h = cc
+sound ins h = cc
+
+-- "A step or clock on a stopped machine changes nothing, counts nothing and logs nothing."
+pub clock-still : (g : Settings) (p : Piped) → isBad (p .pipeline .status) ≡ true → clock g p ≡ p
+unfolding clock
+clock-still g p h = rw h
+
+pub stays : (g : Settings) (p : Piped) (n k : ℕ) → isBad (clocks g p n .pipeline .status) ≡ true → clocks g p (k + n) ≡ clocks g p n
+unfolding clocks
+stays g p n zero h = rw zero-add
+stays g p n (suc k) h = rw (suc-add k n) (ap (clock g) (stays g p n k h) ∙ clock-still g (clocks g p n) h)
