@@ -1,5 +1,8 @@
 // The table of sixteen rows, a constant array for each column.
 ghost use mathlib.Core.Path.{_≡_};
+ghost use mathlib.Core.Bool.{cond};
+ghost use lib.Dec.{ltb};
+ghost use lib.ListN.{getD};
 ghost use Rattle.machine.specs.Table.{rowOf};
 ghost use Rattle.rows.specs.Numbers.{byteNumber, whichNumber, computesNumber, accessesNumber};
 
@@ -22,102 +25,68 @@ const TARGETS: [u8; 16] = [0, 0, 2, 2, 0, 0, 2, 0, 3, 3, 3, 3, 0, 0, 0, 0];
 const LOADED: [u8; 16] = [0, 0, 0, 0, 0, 1, 0, 0, 0, 0, 0, 1, 0, 0, 0, 0];
 
 // A code that no byte holds has the entry of a code without a row.
-pub fn size_of(code: u8) -> u8
-    ensures { λ r. ⌜ r ≡ rowOf code .size ⌝ }
+fn entry(column: &[u8; 16], code: u8, otherwise: u8) -> u8
+    ensures { λ r. ⌜ r ≡ cond (ltb code 16) (getD (now (column .entry)) code 0) otherwise ⌝ }
 {
     if code < 16 {
         let k = code as usize;
-        SIZES[k]
+        column[k]
     } else {
-        1
+        otherwise
     }
+}
+
+pub fn size_of(code: u8) -> u8
+    ensures { λ r. ⌜ r ≡ rowOf code .size ⌝ }
+{
+    entry(&SIZES, code, 1)
 }
 
 // How many functions there are, from 0 on.
 pub fn functions_of(code: u8) -> u8
     ensures { λ r. ⌜ r ≡ rowOf code .functions ⌝ }
 {
-    if code < 16 {
-        let k = code as usize;
-        FUNCTIONS[k]
-    } else {
-        0
-    }
+    entry(&FUNCTIONS, code, 0)
 }
 
 pub fn byte_of(code: u8) -> u8
     ensures { λ r. ⌜ r ≡ byteNumber (rowOf code .byte) ⌝ }
 {
-    if code < 16 {
-        let k = code as usize;
-        BYTES[k]
-    } else {
-        0
-    }
+    entry(&BYTES, code, 0)
 }
 
 pub fn a_from(code: u8) -> u8
     ensures { λ r. ⌜ r ≡ whichNumber (rowOf code .a) ⌝ }
 {
-    if code < 16 {
-        let k = code as usize;
-        A_FROM[k]
-    } else {
-        0
-    }
+    entry(&A_FROM, code, 0)
 }
 
 pub fn b_from(code: u8) -> u8
     ensures { λ r. ⌜ r ≡ whichNumber (rowOf code .b) ⌝ }
 {
-    if code < 16 {
-        let k = code as usize;
-        B_FROM[k]
-    } else {
-        0
-    }
+    entry(&B_FROM, code, 0)
 }
 
 pub fn computes_of(code: u8) -> u8
     ensures { λ r. ⌜ r ≡ computesNumber (rowOf code .computes) ⌝ }
 {
-    if code < 16 {
-        let k = code as usize;
-        COMPUTES[k]
-    } else {
-        0
-    }
+    entry(&COMPUTES, code, 0)
 }
 
 pub fn accesses_of(code: u8) -> u8
     ensures { λ r. ⌜ r ≡ accessesNumber (rowOf code .accesses) ⌝ }
 {
-    if code < 16 {
-        let k = code as usize;
-        ACCESSES[k]
-    } else {
-        0
-    }
+    entry(&ACCESSES, code, 0)
 }
 
 pub fn target_of(code: u8) -> u8
     ensures { λ r. ⌜ r ≡ whichNumber (rowOf code .target) ⌝ }
 {
-    if code < 16 {
-        let k = code as usize;
-        TARGETS[k]
-    } else {
-        0
-    }
+    entry(&TARGETS, code, 0)
 }
 
 pub fn loaded_of(code: u8) -> u8
     ensures { λ r. ⌜ r ≡ whichNumber (rowOf code .loaded) ⌝ }
 {
-    if code < 16 {
-        let k = code as usize;
-        LOADED[k]
-    } else {
-        0
-    }
+    entry(&LOADED, code, 0)
 }
