@@ -1,5 +1,5 @@
 -- What the control proof uses of the instruction set and of the plain step. A new instruction, or another row of the table, has to keep these.
--- What it uses of the register file alone, a write and what is read after it, is the crate registers' File.
+-- What it uses of the register file alone, a write and what is read after it, is laws' Registers.
 use Prim.Native.Nat.{ℕ, zero, suc, _+_}
 use mathlib.Core.Bool.{Bool, true, false, cond, not, _||_, Bool·beq, true≢false}
 use mathlib.Core.List.{[], _∷_, _++_}

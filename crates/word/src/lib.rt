@@ -9,7 +9,7 @@ ghost use Rattle.machine.specs.Memory.{inside as insideOf, load as loadOf, stor
 ghost use Rattle.machine.specs.Words.{difference as differenceOf, number, outside, placed, signed, sum as sumOf};
 
 // A byte as a word; the bound spares each caller the fact that a byte fits.
-pub fn wide(b: u8) -> u64
+fn wide(b: u8) -> u64
     ensures { λ r. ⌜ (r ≡ b) × (r < 256) ⌝ }
 {
     b as u64
@@ -87,7 +87,7 @@ pub fn difference(b: u64, a: u64) -> u64
 }
 
 // A word read as signed; one in the upper half as -1 less its complement, so that each step fits.
-pub fn signed_word(x: u64) -> i64
+fn signed_word(x: u64) -> i64
     ensures { λ r. ⌜ r ≡ signed x ⌝ }
 {
     if x < 9223372036854775808 {
