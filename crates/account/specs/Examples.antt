@@ -125,7 +125,7 @@ with-three d = d
 
 -- with two it is false
 pub two-are-too-few : Demand3Within 2 → ⊥
-unfolding figures patching statusNumber
+unfolding figures patching
 two-are-too-few d = go (d asIn01 (from patching) refl 3 (untouched-sound 2 (plainFrom (from patching)) 4 refl) 8 (omega arith))
   where
     go : (n : ℕ) × Agrees asIn01 (plainFrom (from patching)) (clocks asIn01 (pipedFrom (from patching)) 8) 8 n → ⊥

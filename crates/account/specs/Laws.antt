@@ -333,7 +333,7 @@ module _ (g : Settings) (s : Plain) (n : ℕ) where
   ret-is = ap (is ret) (in-accessed (steps s n))
 
   pub charge-wrong : wrongAt g (steps s n) ≡ true → (is ret (fetched (steps s n)) ≡ false) × (charge g s (suc (suc n)) ≡ 2)
-  unfolding predecessor retiredOf wrongAt accessed access executed execute decoded
+  unfolding predecessor retiredOf wrongAt accessed access executed execute
   charge-wrong m = (
     sym ret-is ∙ wrong-stays g predecessor m,
     charged ∙ behind-wrong g predecessor (fetched (steps s (suc n))) m (conditional g (decoded (steps s n)) (steps s n .machine .codes) m),

@@ -210,7 +210,7 @@ module _ (g : Settings) (p : Piped) (c : ℕ) (y : p .pipeline .cycles ≡ c) wh
 
   next-retires : (w : Accessed) → p .pipeline .w ≡ inW w → behind g (p .pipeline .kept) (accounted p) (w .instruction) ≡ c + 1
       → OwnM g p c (lastKept (retiredOf w)) (behind g (p .pipeline .kept) (accounted p) (w .instruction)) → Next g p (advanced g p)
-  unfolding advanced keptAfter accounted isBad
+  unfolding advanced keptAfter isBad
   next-retires w h t a =
       let k = books-retires g p w h in
       let e = books-account (advanced g p) w k t in

@@ -10,7 +10,7 @@ use Rattle.account.specs.Names.{aok, bubbleW, inW}
 use Rattle.machine.specs.Types.{isBad}
 use Rattle.machine.specs.Plain.{Plain, plainStart, isStopped, fetched, accessed, stoppedBy, steps}
 use Rattle.machine.specs.Prediction.{Settings}
-use Rattle.machine.specs.Charges.{noKinds, reasonFrom, reasonOf, kindsOf, charge, charges, amount, due, dueCycles}
+use Rattle.machine.specs.Charges.{reasonFrom, reasonOf, kindsOf, charge, charges, amount, due, dueCycles}
 use Rattle.machine.specs.Pipeline.{Piped, pipeStart, waits, waitsBehind, mended, returnedTo, fetchAddress, lastAfter, retiredAfter, kindsAfter, keptAfter, logged, advanced, stoppedIn, clock, clocks}
 use Rattle.machine.specs.Premise.{Untouched}
 use Rattle.account.specs.Statement.{Start, plainFrom, pipedFrom, DueBy, keptOf, Agrees, Demand3}
@@ -185,7 +185,7 @@ module _ (g : Settings) (s : Plain) (k : ℕ) where
 
 module _ (g : Settings) (t : Start) (k : ℕ) where
   start-after : After g (plainFrom t) k (pipedFrom t) 0 0
-  unfolding plainFrom pipedFrom plainStart pipeStart steps isStopped isBad dueCycles kindsOf keptOf noKinds due charges charge reasonOf amount bit waits waitsBehind waitsFor fetchAddress mended returnedTo
+  unfolding plainFrom pipedFrom plainStart pipeStart steps isStopped isBad dueCycles kindsOf keptOf due charges charge reasonOf amount bit waits waitsBehind waitsFor fetchAddress mended returnedTo
   start-after =
       record {
         counts = record { retired = refl; addresses = refl; cycles = refl; kinds = refl; last = refl };

@@ -4,10 +4,10 @@ use mathlib.Core.Bool.{Bool, true, false, cond, true≢false}
 use mathlib.Core.Path.{_≡_, refl, sym, ap, _∙_}
 use Prim.Native.Nat.{ℕ, zero, suc, _+_, _-_, _<_, _≤_}
 use native.Mathlib.Omega.{arith}
-use borrow.Author.Tests.{lt-ltb, le-ltb, ltb-true, ltb-false}
+use borrow.Author.Tests.{lt-ltb, le-ltb, ltb-true, ltb-false, leb-false}
 use lib.Dec.{ltb}
 use lib.IntN.{ℤ, pos, negsuc, subℕ, negℤ, _+ℤ_}
-use lib.Signed.{mag, ltZ}
+use lib.Signed.{mag, ltZ, leZ}
 
 pub pos-sub : (n : ℕ) → pos n ≡ subℕ n 0
 pos-sub n = sym (simp (le-ltb n 0 (omega arith)) (ap pos (omega arith)))
@@ -73,9 +73,9 @@ pub between {ℓ} : (P : ℤ → Type ℓ) (n : ℕ) → ((a b : ℕ) → a < n 
 between P n f (pos k) h = rw (pos-sub k) (f k 0 (omega arith) (omega arith))
 between P n f (negsuc k) h = rw (negsuc-sub k) (f 0 (suc k) (omega arith) (omega arith))
 
--- of the sign s, where the test for a negative number says s
-pub by-sign {ℓ} : (P : ℤ → Type ℓ) (s : Bool) → ((k : ℕ) → P (cond s (negsuc k) (pos k))) → (z : ℤ) → ltZ z (pos 0) ≡ s → P z
-by-sign P true f (pos k) e = absurd (omega (arith, ltb-true k 0 e))
-by-sign P true f (negsuc k) e = f k
-by-sign P false f (pos k) e = f k
-by-sign P false f (negsuc k) e = absurd (true≢false e)
+-- of the sign s, where the test for 0 or above says s
+pub by-sign {ℓ} : (P : ℤ → Type ℓ) (s : Bool) → ((k : ℕ) → P (cond s (pos k) (negsuc k))) → (z : ℤ) → leZ (pos 0) z ≡ s → P z
+by-sign P true f (pos k) e = f k
+by-sign P true f (negsuc k) e = absurd (true≢false (sym e))
+by-sign P false f (pos k) e = absurd (omega (arith, leb-false 0 k e))
+by-sign P false f (negsuc k) e = f k

@@ -6,7 +6,7 @@ use native.Mathlib.Omega.{arith}
 use borrow.Author.Tests.{le-ltb}
 use lib.IntN.{ℤ, pos, negsuc, _+ℤ_, _-ℤ_}
 use lib.Pow.{pow-pos}
-use lib.Signed.{ltZ}
+use lib.Signed.{ltZ, leZ}
 use mir.Syntax.{Width}
 use mir.Val.{bits, hbits, toZ, ofZ, SFits}
 use mir.ValLaws.{pow-bits, toZ-pos, toZ-ofZ}
@@ -57,22 +57,22 @@ module _ (w : Width) where
 
   module _ (b a : ℤ) (f : SFits w b) (g : SFits w a) where
     -- one law for the four tests: what is shown of a number with the sign that was tested holds of a, as held
-    tested : (s : Bool) (test : ℤ → ℤ → Bool) (end moved : ℤ → ℤ) → ((k : ℕ) → SFits w (cond s (negsuc k) (pos k)) → SFits w (end (cond s (negsuc k) (pos k))) × (test b (end (cond s (negsuc k) (pos k))) ≡ outside w (moved (cond s (negsuc k) (pos k))))) → ltZ (held a) (pos 0) ≡ s → SFits w (end (held a)) × (test (held b) (held (end (held a))) ≡ outside w (moved a))
+    tested : (s : Bool) (test : ℤ → ℤ → Bool) (end moved : ℤ → ℤ) → ((k : ℕ) → SFits w (cond s (pos k) (negsuc k)) → SFits w (end (cond s (pos k) (negsuc k))) × (test b (end (cond s (pos k) (negsuc k))) ≡ outside w (moved (cond s (pos k) (negsuc k))))) → leZ (pos 0) (held a) ≡ s → SFits w (end (held a)) × (test (held b) (held (end (held a))) ≡ outside w (moved a))
     tested s test end moved h e =
         let p : SFits w (end a) × (test b (end a) ≡ outside w (moved a)) = by-sign (λ z. SFits w z → SFits w (end z) × (test b (end z) ≡ outside w (moved z))) s h a (rw (toZ-ofZ w a g) at e) g in
         rw (toZ-ofZ w a g) (p .0, rw (toZ-ofZ w b f, toZ-ofZ w (end a) (p .0)) (p .1))
 
-    pub sum-negative : ltZ (held a) (pos 0) ≡ true → SFits w (least -ℤ held a) × (ltZ (held b) (held (least -ℤ held a)) ≡ outside w (b +ℤ a))
-    sum-negative = tested true ltZ (λ z. least -ℤ z) (λ z. b +ℤ z) (λ k h. down b (suc k) f (omega arith))
+    pub sum-other : leZ (pos 0) (held a) ≡ true → SFits w (top -ℤ held a) × (ltZ (held (top -ℤ held a)) (held b) ≡ outside w (b +ℤ a))
+    sum-other = tested true (λ x y. ltZ y x) (λ z. top -ℤ z) (λ z. b +ℤ z) (λ k h. up b k f (omega arith))
 
-    pub sum-other : ltZ (held a) (pos 0) ≡ false → SFits w (top -ℤ held a) × (ltZ (held (top -ℤ held a)) (held b) ≡ outside w (b +ℤ a))
-    sum-other = tested false (λ x y. ltZ y x) (λ z. top -ℤ z) (λ z. b +ℤ z) (λ k h. up b k f (omega arith))
+    pub sum-negative : leZ (pos 0) (held a) ≡ false → SFits w (least -ℤ held a) × (ltZ (held b) (held (least -ℤ held a)) ≡ outside w (b +ℤ a))
+    sum-negative = tested false ltZ (λ z. least -ℤ z) (λ z. b +ℤ z) (λ k h. down b (suc k) f (omega arith))
 
-    pub difference-negative : ltZ (held a) (pos 0) ≡ true → SFits w (top +ℤ held a) × (ltZ (held (top +ℤ held a)) (held b) ≡ outside w (b -ℤ a))
-    difference-negative = tested true (λ x y. ltZ y x) (λ z. top +ℤ z) (λ z. b -ℤ z) (λ k h. up b (suc k) f (omega arith))
+    pub difference-other : leZ (pos 0) (held a) ≡ true → SFits w (least +ℤ held a) × (ltZ (held b) (held (least +ℤ held a)) ≡ outside w (b -ℤ a))
+    difference-other = tested true ltZ (λ z. least +ℤ z) (λ z. b -ℤ z) (λ k h. down b k f (omega arith))
 
-    pub difference-other : ltZ (held a) (pos 0) ≡ false → SFits w (least +ℤ held a) × (ltZ (held b) (held (least +ℤ held a)) ≡ outside w (b -ℤ a))
-    difference-other = tested false ltZ (λ z. least +ℤ z) (λ z. b -ℤ z) (λ k h. down b k f (omega arith))
+    pub difference-negative : leZ (pos 0) (held a) ≡ false → SFits w (top +ℤ held a) × (ltZ (held (top +ℤ held a)) (held b) ≡ outside w (b -ℤ a))
+    difference-negative = tested false (λ x y. ltZ y x) (λ z. top +ℤ z) (λ z. b -ℤ z) (λ k h. up b (suc k) f (omega arith))
 
   -- a word in the upper half, read as signed: -1 less its complement
   pub upper-half : (x : ℕ) → half ≤ x → x < 2 ^ bits w → negsuc 0 -ℤ toZ w (2 ^ bits w - 1 - x) ≡ toZ w x

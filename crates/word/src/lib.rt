@@ -107,10 +107,10 @@ pub fn negative(x: u64) -> bool
 fn signed_sum_outside(b: i64, a: i64) -> bool
     ensures { λ r. ⌜ r ≡ outside w64 (b +ℤ a) ⌝ }
 {
-    if a < 0 {
-        b < i64::MIN - a
-    } else {
+    if 0 <= a { // b goes up
         i64::MAX - a < b
+    } else {
+        b < i64::MIN - a
     }
 }
 
@@ -118,10 +118,10 @@ fn signed_sum_outside(b: i64, a: i64) -> bool
 fn signed_difference_outside(b: i64, a: i64) -> bool
     ensures { λ r. ⌜ r ≡ outside w64 (b -ℤ a) ⌝ }
 {
-    if a < 0 {
-        i64::MAX + a < b
-    } else {
+    if 0 <= a { // b goes down
         b < i64::MIN + a
+    } else {
+        i64::MAX + a < b
     }
 }
 
