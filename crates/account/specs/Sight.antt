@@ -6,9 +6,10 @@ use native.Mathlib.Omega.{arith}
 use native.Mathlib.Decide.{decLt}
 use borrow.Author.Tests.{ltb-false, lt-ltb, le-leb}
 use lib.Dec.{ltb, leb}
-use lib.ListN.{length, getD, set, take, drop, length-set, length-take, length-drop, List·getD-eq-default}
+use lib.ListN.{length, getD, set, take, drop, length-take, length-drop, List·getD-eq-default}
 use lib.Seq.{getD-set-other, ext-getD, getD-take, getD-drop}
 use Rattle.account.specs.Names.{Executed}
+use Rattle.laws.specs.Memory.{length-placed}
 use Rattle.machine.specs.Words.{placed}
 use Rattle.machine.specs.Memory.{Memory, inside, store}
 use Rattle.machine.specs.Table.{rowOf}
@@ -22,11 +23,6 @@ use Rattle.account.specs.Laws.{step-memory, stopped-before}
 use Rattle.account.specs.Relation.{Known}
 
 -- WHAT A STORE LEAVES
-length-placed : (k : ℕ) (m : Memory) (a v : ℕ) → length (placed k m a v) ≡ length m
-unfolding placed
-length-placed zero m a v = refl
-length-placed (suc k) m a v = length-placed k (set m a (v % 256)) (a + 1) (v / 256) ∙ length-set m a (v % 256)
-
 getD-placed : (k : ℕ) (m : Memory) (a v x : ℕ) → (a ≤ x → a + k ≤ x) → getD (placed k m a v) x 0 ≡ getD m x 0
 unfolding placed
 getD-placed zero m a v x h = refl

@@ -9,7 +9,7 @@ use lib.Seq.{take-suc, take-suc-set, take-length, length-take-le}
 use borrow.Author.Tests.{lt-ltb}
 use Rattle.machine.specs.Words.{number, placed}
 use Rattle.machine.specs.Memory.{inside, load, store}
-use Rattle.word.proofs.Bytes.{placed-length}
+use Rattle.laws.specs.Memory.{length-placed}
 use Rattle.edge.specs.Edge.{wordsIn, withWords}
 
 words-more : (k : ℕ) (b : List ℕ) (a : ℕ) → wordsIn (suc k) b a ≡ wordsIn k b a ++ number 8 b (a + 8 * k) ∷ []
@@ -33,7 +33,7 @@ with-more (x ∷ ws) w b a =
 pub with-length : (ws b : List ℕ) (a : ℕ) → length (withWords ws b a) ≡ length b
 unfolding withWords
 with-length [] b a = refl
-with-length (w ∷ ws) b a = with-length ws (placed 8 b a w) (a + 8) ∙ placed-length 8 b a w
+with-length (w ∷ ws) b a = with-length ws (placed 8 b a w) (a + 8) ∙ length-placed 8 b a w
 
 -- a word that is inside is loaded and stored as its bytes
 load-there : (b : List ℕ) (a v : ℕ) → a + 8 ≤ length b → v ≡ load b a → v ≡ number 8 b a

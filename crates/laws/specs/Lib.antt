@@ -1,3 +1,4 @@
+pub mod Memory
 pub mod Registers
 pub mod Stops
 pub mod Tests

@@ -1,22 +1,16 @@
 -- Numbers in bytes: what a store leaves, what a number read is below, and one byte more of each. Assumes nothing.
 use mathlib.Core.Bool.{true, false}
 use mathlib.Core.List.{List}
-use mathlib.Core.Path.{_≡_, refl, _∙_}
+use mathlib.Core.Path.{_≡_, refl}
 use Prim.Native.Nat.{ℕ, zero, suc, _+_, _-_, _*_, _/_, _%_, _^_, _≤_, _<_}
 use native.Mathlib.Nat.{pow-succ', pow-le-pow-right}
 use native.Mathlib.Omega.{arith}
 use borrow.Author.Tests.{ltb-true}
-use lib.ListN.{length, getD, set, length-set}
+use lib.ListN.{length, getD, set}
 use mir.Syntax.{w8}
 use mir.Val.{Fits}
 use Rattle.machine.specs.Memory.{inside, load, store}
 use Rattle.machine.specs.Words.{number, placed}
-
--- a store keeps the size of memory
-pub placed-length : (k : ℕ) (m : List ℕ) (a v : ℕ) → length (placed k m a v) ≡ length m
-unfolding placed
-placed-length zero m a v = refl
-placed-length (suc k) m a v = placed-length k (set m a (v % 256)) (a + 1) (v / 256) ∙ length-set m a (v % 256)
 
 -- a word inside and one outside
 module _ (m : List ℕ) (a : ℕ) where
