@@ -29,6 +29,7 @@ aheadOf m w = record { m = targetsM m; w = targetsW w }
 unfoldable pub signalsWith : Bool → StageD → StageE → StageM → StageM → StageW → Signals
 signalsWith b d e m x y = record { waits = b; mispredicts = wrong asIn01 x; returns = retInD d || (retInE e || retInM m); fails = badInW y }
 
+-- document 01's four signals
 unfoldable pub signalsOf : StageD → StageE → StageM → StageM → StageW → Signals
 signalsOf d e m x y = signalsWith (waitsBehind asIn01 e d) d e m x y
 
@@ -36,16 +37,20 @@ signalsOf d e m x y = signalsWith (waitsBehind asIn01 e d) d e m x y
 unfoldable pub signalsBy : Sources → Targets → StageD → StageE → StageM → StageM → StageW → Signals
 signalsBy s t d e m x y = signalsWith (meets (t .loaded) (s .a) || meets (t .loaded) (s .b)) d e m x y
 
+-- what is fetched in a clock that began with f for the predicted address
 unfoldable pub fetchedIn : StageM → StageW → ℕ → Memory → Instruction
 fetchedIn m w f bytes = fetch bytes (mended asIn01 m (returnedTo w f))
 
+-- document 01's order of six: result in E, word and result in M, word and result in W, register file
 unfoldable pub sourceIn : StageM → StageW → StageW → Registers → ℕ → ℕ
 sourceIn x y w r q = pastResult x q (pastBoth y q (pastBoth w q (value r q)))
 
+-- decode on the register file before W's write
 unfoldable pub decodedIn : StageD → StageM → StageW → StageW → Registers → StageE
 decodedIn bubbleD x y w r = bubbleE
 decodedIn (inD i) x y w r = inE (decode i (sourceIn x y w r))
 
+-- the controls at the end of a clock, on the signals s, with i fetched and z decoded
 unfoldable pub shiftedOf : Flow → Signals → StageM → StageW → Instruction → StageE → Flow
 shiftedOf f s x y i z =
     let m = cond (s .fails) bubbleM x in
@@ -59,6 +64,7 @@ shiftedOf f s x y i z =
       targets = aheadOf m y;
     }
 
+-- a clock in which no bad status stands in W, from registers r and memory m as it began
 unfoldable pub flowAfter : Flow → Registers → Memory → Flow
 flowAfter f r m =
     let x = afterE (f .e) (f .codes) in

@@ -102,7 +102,7 @@ fn write_and_decode(
     decode_d(d, sources, targets, executed, in_m, accessed, registers)
 }
 
-// A clock in which no bad status stands in W.
+// A clock in which no bad status stands in W: memory is read before its write.
 pub fn advance(flow: Flow, registers: &mut [u64; 15], memory: &mut [u8]) -> Flow
     requires { ⌜ (length (now registers) ≡ 15) × (flow .targets ≡ aheadOf (flow .m) (flow .w)) ⌝ }
     ensures { λ r. ⌜ (r ≡ flowAfter flow (now (registers .entry)) (now (memory .entry))) × (now (registers .exit) ≡ registersAfter (flow .w) (now (registers .entry))) × (now (memory .exit) ≡ memoryAfter (flow .m) (now (memory .entry))) ⌝ }

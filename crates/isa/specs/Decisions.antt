@@ -14,9 +14,11 @@ use Rattle.rows.specs.Numbers.{accessesNumber}
 abbrev pub accessKind : Executed → ℕ
 accessKind x = accessesNumber (rowOf (x .instruction .code) .accesses)
 
+-- the register that a number names, 15 for none
 unfoldable pub registerBy : ℕ → Instruction → ℕ
 registerBy k i = cond (eqb k 1) (i .ra) (cond (eqb k 2) (i .rb) (cond (eqb k 3) 4 15))
 
+-- what a number says is computed
 unfoldable pub computedBy : ℕ → Decoded → ℕ
 computedBy k x =
     cond (eqb k 1) (operated (x .instruction .function) (x .a) (x .b))

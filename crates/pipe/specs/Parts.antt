@@ -15,12 +15,15 @@ use Rattle.flow.specs.Moving.{aheadOf}
 use Rattle.retiring.specs.declared.Tally.{Tally}
 
 -- THE RECORD
+-- what a clock moves, with the targets of M and W
 unfoldable pub flowOf : Pipeline → Flow
 flowOf p = record { predicted = p .predicted; d = p .d; e = p .e; m = p .m; w = p .w; codes = p .codes; targets = aheadOf (p .m) (p .w) }
 
+-- what a clock counts
 unfoldable pub tallyOf : Pipeline → Tally
 tallyOf p = record { last = p .last; retired = p .retired; cycles = p .cycles; kinds = p .kinds; kept = p .kept }
 
+-- the record put together again
 unfoldable pub whole : Flow → Tally → Status → Registers → Pipeline
 whole f t x r =
     record {
@@ -40,14 +43,17 @@ whole f t x r =
     }
 
 -- THE LOGS
+-- where b says that an instruction retired, place k takes x
 unfoldable pub noted : Bool → ℕ → ℕ → List ℕ → List ℕ
 noted b k x log = cond b (set log k x) log
 
 -- THE ENTRIES
+-- the lowest refusal, where short says that a lent log is shorter than the budget
 unfoldable pub refusalBy : Bool → Pipeline → (size budget : ℕ) → ℕ
 refusalBy short k size budget =
     lowest ((1, sizeRefused size) ∷ (3, budgetRefused pipeLimit (k .cycles) budget) ∷ (4, short) ∷ (5, recordRefused k) ∷ [])
 
+-- the answer of every entry
 unfoldable pub answerBy : Bool → Pipeline → Memory → ℕ → List ℕ → List ℕ → PipeAnswer
 answerBy short k m budget a y =
     let n = refusalBy short k (length m) budget in

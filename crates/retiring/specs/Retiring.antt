@@ -23,9 +23,11 @@ countedBy t n =
     (cond (eqb n 2) (record { loaduse = t .loaduse; mispredict = t .mispredict + 2; returned = t .returned })
     (cond (eqb n 3) (record { loaduse = t .loaduse; mispredict = t .mispredict; returned = t .returned + 3 }) t))
 
+-- what is kept is retired with AOK
 unfoldable pub keptBy : Accessed → Kept → Kept
 keptBy x k = cond (isBad (x .status)) k (lastKept (retiredOf x))
 
+-- "An instruction retires in the clock in which it stands in W."
 unfoldable pub retires : StageW → Bool
 retires bubbleW = false
 retires (inW x) = true
