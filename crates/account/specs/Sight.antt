@@ -15,7 +15,7 @@ use Rattle.machine.specs.Memory.{Memory, inside, store}
 use Rattle.machine.specs.Table.{rowOf}
 use Rattle.machine.specs.Fetch.{fetch, parsed, ownBytes, sizeAt}
 use Rattle.machine.specs.Stages.{decode, execute, stores, accessAddress, storedWord, newMemory}
-use Rattle.columns.specs.Lengths.{length-rule, parts}
+use Rattle.published.specs.Lengths.{length-rule, parts}
 use Rattle.machine.specs.Plain.{Plain, isStopped, fetched, decoded, executed, step, steps}
 use Rattle.machine.specs.Prediction.{Settings}
 use Rattle.machine.specs.Premise.{Untouched, writesByte, hasByte}

@@ -22,7 +22,7 @@ use Rattle.machine.specs.Runs.{laid, sizeRefused, budgetRefused, logRefused, re
 use Rattle.account.specs.Statement.{Start, plainFrom, pipedFrom, DueBy, keptOf, Agrees}
 use Rattle.account.specs.Laws.{step-logs}
 use Rattle.laws.specs.Tests.{neither}
-use Rattle.columns.specs.Columns.{stays as step-still}
+use Rattle.published.specs.Columns.{stays as step-still}
 use Rattle.account.specs.Timing.{up-to, due-most}
 use Rattle.account.specs.Uses.{due-only, due-stopped}
 use Rattle.account.specs.Prefix.{Begins, begins-all, logs-begin}

@@ -12,9 +12,9 @@ use Rattle.machine.specs.Words.{sum, number}
 use Rattle.machine.specs.Memory.{Memory, inside, load}
 use Rattle.machine.specs.Table.{rowOf, RegisterByte, noByte, bothNamed, onlyB, onlyA}
 use Rattle.machine.specs.Fetch.{stopping, halvesFit, half, checked, fetch}
-use Rattle.columns.specs.Lengths.{hasRegisterByte, length-rule, two}
-use Rattle.columns.specs.Fetching.{aokAt, fetch-is}
-use Rattle.rows.specs.Numbers.{byteNumber}
+use Rattle.published.specs.Lengths.{hasRegisterByte, length-rule, two}
+use Rattle.published.specs.Fetching.{aokAt, fetch-is}
+use Rattle.lookup.specs.Numbers.{byteNumber}
 use Rattle.fetching.specs.Halves.{halvesFitBy}
 
 abbrev codeAt : Memory → ℕ → ℕ

@@ -1,9 +1,9 @@
 // Fetch: document 01's checks in their order.
+use lookup::byte_of;
+use lookup::functions_of;
+use lookup::size_of;
 use machine::Instruction;
 use machine::Status;
-use rows::byte_of;
-use rows::functions_of;
-use rows::size_of;
 ghost use mathlib.Core.Path.{_≡_};
 ghost use mathlib.Core.Bool.{cond};
 ghost use Prim.Native.Nat.{_+_, _-_, _≤_, _<_};

@@ -7,7 +7,7 @@ use Rattle.machine.specs.declared.Decoded.{Decoded}
 use Rattle.machine.specs.declared.Executed.{Executed}
 use Rattle.machine.specs.Table.{Which, none, rA, rB, rsp, Computes, nothing, bOpA, justA, justC, bPlusC, bLess8, bPlus8, Accesses, noAccess, loadsAtE, loadsAtA, storesA, storesNext}
 use Rattle.machine.specs.Stages.{register, computed, loading, storing, addressed, stored}
-use Rattle.rows.specs.Numbers.{whichNumber, computesNumber, accessesNumber}
+use Rattle.lookup.specs.Numbers.{whichNumber, computesNumber, accessesNumber}
 use Rattle.isa.specs.Decisions.{registerBy, computedBy}
 
 pub register-by : (w : Which) (i : Instruction) → registerBy (whichNumber w) i ≡ register w i

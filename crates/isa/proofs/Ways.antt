@@ -23,7 +23,7 @@ use Rattle.machine.specs.Words.{sum, difference, signed, outside}
 use Rattle.machine.specs.Memory.{Memory, inside, load, store}
 use Rattle.machine.specs.Table.{rowOf, is}
 use Rattle.machine.specs.Stages.{sourceA, sourceB, resultTarget, loadedTarget, operated, overflows, operatedCodes, newCodes, condition, result, outcome, execute, loads, stores, accessAddress, storedWord, accessStatus, access, newMemory, turned, straight, nextAddress}
-use Rattle.rows.specs.Numbers.{whichNumber, computesNumber}
+use Rattle.lookup.specs.Numbers.{whichNumber, computesNumber}
 use Rattle.isa.specs.Decisions.{accessKind, registerBy, computedBy}
 use Rattle.isa.proofs.Entries.{register-by, computed-by, loads-by, stores-by, accesses-by, addressed-by, stored-by}
 

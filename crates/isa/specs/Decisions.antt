@@ -8,7 +8,7 @@ use Rattle.machine.specs.declared.Executed.{Executed}
 use Rattle.machine.specs.Words.{sum, difference}
 use Rattle.machine.specs.Table.{rowOf}
 use Rattle.machine.specs.Stages.{operated}
-use Rattle.rows.specs.Numbers.{accessesNumber}
+use Rattle.lookup.specs.Numbers.{accessesNumber}
 
 -- the number of an executed instruction's access, which is read once and handed on
 abbrev pub accessKind : Executed → ℕ

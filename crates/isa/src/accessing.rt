@@ -1,8 +1,8 @@
 // The memory stage. The table is read once for an access, and its number handed on.
+use lookup::accesses_of;
 use machine::Accessed;
 use machine::Executed;
 use machine::Status;
-use rows::accesses_of;
 ghost use mathlib.Core.Path.{_≡_};
 ghost use mathlib.Core.Bool.{cond};
 ghost use Rattle.machine.specs.Memory.{load as loadOf};

@@ -1,10 +1,10 @@
 // Sources, targets, and the register file.
+use lookup::a_from;
+use lookup::b_from;
+use lookup::loaded_of;
+use lookup::target_of;
 use machine::Instruction;
 use machine::Status;
-use rows::a_from;
-use rows::b_from;
-use rows::loaded_of;
-use rows::target_of;
 ghost use mathlib.Core.Path.{_≡_};
 ghost use Rattle.machine.specs.Types.{isBad};
 ghost use Rattle.machine.specs.Memory.{value as valueOf, written as writtenOf};

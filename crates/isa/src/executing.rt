@@ -1,10 +1,10 @@
 // Execute: arithmetic with codes, conditions, and where an instruction leads.
+use lookup::computes_of;
 use machine::Accessed;
 use machine::Codes;
 use machine::Decoded;
 use machine::Executed;
 use machine::Instruction;
-use rows::computes_of;
 ghost use mathlib.Core.Path.{_≡_};
 ghost use Rattle.machine.specs.Stages.{operated as operatedOf, overflows as overflowsOf, operatedCodes, newCodes, condition as conditionOf, result as resultOf, outcome as outcomeOf, execute as executeOf, turned as turnedOf, straight as straightOf, nextAddress};
 ghost use Rattle.isa.specs.Decisions.{computedBy};

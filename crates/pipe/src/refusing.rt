@@ -1,6 +1,7 @@
 // The refusals, of which the lowest number wins.
 use answers::budget_refused;
 use answers::size_refused;
+use lookup::functions_of;
 use machine::Instruction;
 use machine::Kept;
 use machine::Pipeline;
@@ -8,7 +9,6 @@ use machine::StageD;
 use machine::StageE;
 use machine::StageM;
 use machine::StageW;
-use rows::functions_of;
 ghost use mathlib.Core.Path.{_≡_};
 ghost use Rattle.machine.specs.Runs.{instructionRefused, refusedInD, refusedInE, refusedInM, refusedInW, refusedKept, countsRefused, recordRefused};
 ghost use Rattle.pipe.specs.Parts.{refusalBy};

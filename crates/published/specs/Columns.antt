@@ -14,8 +14,8 @@ use Rattle.machine.specs.Fetch.{half, stopping}
 use Rattle.machine.specs.Stages
 use Rattle.machine.specs.Stages.{decode, execute, access, newCodes, newMemory, newRegisters, nextAddress, operated, operatedCodes, condition, loads, stores, accessAddress, accessStatus}
 use Rattle.machine.specs.Plain.{Plain, isStopped, fetched, decoded, executed, accessed, performed, stoppedBy, step}
-use Rattle.columns.specs.Names.{Status, aok, hlt, adr, Codes, Instruction}
-use Rattle.columns.specs.Fetching.{M₁, M₈, aokAt, fetch-aok, fetch-bad, fetch-halt}
+use Rattle.published.specs.Names.{Status, aok, hlt, adr, Codes, Instruction}
+use Rattle.published.specs.Fetching.{M₁, M₈, aokAt, fetch-aok, fetch-bad, fetch-halt}
 
 abbrev pub PC : Plain → ℕ
 PC s = s .machine .address

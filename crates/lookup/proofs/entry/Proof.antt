@@ -1,7 +1,7 @@
-use Rattle.rows.proofs.Entries.{in-column, past-column}
+use Rattle.lookup.proofs.Entries.{in-column, past-column}
 use borrow.Author.Needs.{needs}
-use Rattle.rows.proofs.entry.Statement.{statement}
-use Rattle.rows.proofs.entry.Tie as tie
+use Rattle.lookup.proofs.entry.Statement.{statement}
+use Rattle.lookup.proofs.entry.Tie as tie
 
 element-copy-out-result : tie.Need-element-copy-out-result
 element-copy-out-result c = search needs

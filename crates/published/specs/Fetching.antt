@@ -14,8 +14,8 @@ use Rattle.machine.specs.Words.{sum, number}
 use Rattle.machine.specs.Memory.{Memory}
 use Rattle.machine.specs.Table.{rowOf, table, RegisterByte, noByte, bothNamed, onlyB, onlyA}
 use Rattle.machine.specs.Fetch.{sizeAt, ownBytes, stopping, checked, half, constantIn, parsed, fetch, halvesFit}
-use Rattle.columns.specs.Names.{Status, aok, hlt, Instruction}
-use Rattle.columns.specs.Lengths.{length-rule, two, parts, hasRegisterByte}
+use Rattle.published.specs.Names.{Status, aok, hlt, Instruction}
+use Rattle.published.specs.Lengths.{length-rule, two, parts, hasRegisterByte}
 
 -- M₁[a], a byte, and M₈[a], the eight bytes from a on
 abbrev pub M₁ : Memory → ℕ → ℕ

@@ -4,7 +4,7 @@ ghost use mathlib.Core.Bool.{cond};
 ghost use lib.Dec.{ltb};
 ghost use lib.ListN.{getD};
 ghost use Rattle.machine.specs.Table.{rowOf};
-ghost use Rattle.rows.specs.Numbers.{byteNumber, whichNumber, computesNumber, accessesNumber};
+ghost use Rattle.lookup.specs.Numbers.{byteNumber, whichNumber, computesNumber, accessesNumber};
 
 const SIZES: [u8; 16] = [1, 1, 2, 10, 10, 10, 2, 9, 9, 1, 2, 2, 1, 1, 1, 1];
 
