@@ -1,2 +1,3 @@
 pub mod Logs
 pub mod Refusals
+pub mod Joined

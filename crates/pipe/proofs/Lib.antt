@@ -2,4 +2,3 @@ pub mod Ways
 pub mod Clocks
 pub mod Runs
 pub mod Entries
-pub mod Joined

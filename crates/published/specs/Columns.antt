@@ -1,6 +1,6 @@
 -- The columns of document 003's stage tables, proved of the plain step: what an instruction changes, to what, and nothing else.
 -- Names as there: M₁, M₈, R, PC, CC, icode, ifun, rA, rB, valE, valM. What fetch-aok says is put in: rA:rB is M₁[PC+1], valC is M₈[PC+2] or M₈[PC+1].
-use Prim.Native.Nat.{ℕ, _+_, _/_, _%_, _<_}
+use Prim.Native.Nat.{ℕ, _+_, _/_, _%_, _<_, _≤_}
 use mathlib.Core.Path.{_≡_, refl, ap, _∙_}
 use mathlib.Core.Bool.{Bool, true, false, cond, not, _&&_, _||_}
 use mathlib.Core.List.{[], _∷_, _++_}
@@ -15,7 +15,7 @@ use Rattle.machine.specs.Stages
 use Rattle.machine.specs.Stages.{decode, execute, access, newCodes, newMemory, newRegisters, nextAddress, operated, operatedCodes, condition, loads, stores, accessAddress, accessStatus}
 use Rattle.machine.specs.Plain.{Plain, isStopped, fetched, decoded, executed, accessed, performed, stoppedBy, step}
 use Rattle.published.specs.Names.{Status, aok, hlt, adr, Codes, Instruction}
-use Rattle.published.specs.Fetching.{M₁, M₈, aokAt, fetch-aok, fetch-bad, fetch-halt}
+use Rattle.published.specs.Fetching.{M₁, M₈, aokAt, fetch-aok, aok-code, fetch-bad, fetch-halt}
 
 abbrev pub PC : Plain → ℕ
 PC s = s .machine .address
@@ -174,6 +174,13 @@ ret s h = column s 9 h
 pub nop : (s : Plain) → At s 1 → step s ≡ after s (s .machine .registers) (CC s) (s .memory) (sum (PC s) 1) aok
 unfolding columnOf
 nop s h = column s 1 h
+
+-- and there is no other: whatever a running machine fetches with AOK is at one of these columns, codes 1 to 11
+pub some-column : (s : Plain) → isStopped s ≡ false → fetched s .status ≡ aok → (1 ≤ icode s) × (icode s ≤ 11) × At s (icode s)
+unfolding fetched
+some-column s r e =
+    let code = aok-code (s .memory) (PC s) e in
+    (code .0, code .1, (r, e, refl))
 
 -- THE MARKED FACTS
 -- "pushq rsp stores the old rsp"

@@ -3,10 +3,10 @@ use Prim.Native.Nat.{ℕ, zero, suc, min, _+_, _-_, _/_, _%_, _<_, _≤_}
 use mathlib.Core.Path.{_≡_, refl, sym, ap, _∙_}
 use mathlib.Core.Bool.{Bool, true, false, cond, not}
 use mathlib.Core.List.{[], _∷_}
-use native.Mathlib.Nat.{add-zero, add-assoc}
+use native.Mathlib.Nat.{add-zero, add-assoc, lt-of-not-le}
 use native.Mathlib.Omega.{arith}
 use lib.Dec.{T, ltb, leb, eqb, ltb→lt}
-use borrow.Author.Tests.{leb-true, leb-false, ltb-true, ltb-false, lt-ltb, le-ltb, eq-eqb, ne-eqb}
+use borrow.Author.Tests.{leb-true, leb-false, ltb-true, ltb-false, lt-ltb, le-ltb, eq-eqb, ne-eqb, eqb-false}
 use lib.ListN.{length, length-take, length-drop, getD, take, drop}
 use lib.Seq.{getD-take, getD-drop, drop-cons}
 use Rattle.machine.specs.Types.{isBad}
@@ -15,7 +15,7 @@ use Rattle.machine.specs.Memory.{Memory}
 use Rattle.machine.specs.Table.{rowOf, table, RegisterByte, noByte, bothNamed, onlyB, onlyA}
 use Rattle.machine.specs.Fetch.{sizeAt, ownBytes, stopping, checked, half, constantIn, parsed, fetch, halvesFit}
 use Rattle.published.specs.Names.{Status, aok, hlt, Instruction}
-use Rattle.published.specs.Lengths.{length-rule, two, parts, hasRegisterByte}
+use Rattle.published.specs.Lengths.{length-rule, no-functions, two, parts, hasRegisterByte}
 
 -- M₁[a], a byte, and M₈[a], the eight bytes from a on
 abbrev pub M₁ : Memory → ℕ → ℕ
@@ -102,19 +102,29 @@ fetch-is m a =
       cond-same (ltb 8 n) _ _ 0 (λ t. own-number 8 m a n (n - 8) (omega (arith, ltb→lt 8 n t))),
     ))
 
--- an instruction that is checked to AOK is the one given
-checked-aok : (f n l r h : Bool) (i : Instruction) → checked f n l r h i .status ≡ aok → checked f n l r h i ≡ i
+-- an instruction that is checked to AOK is the one given; its function is in the table, and it is no halt
+checked-aok : (f n l r h : Bool) (i : Instruction) → checked f n l r h i .status ≡ aok → (checked f n l r h i ≡ i) × (n ≡ false) × (h ≡ false)
 unfolding checked stopping
-checked-aok true n l r h i e = cc
-checked-aok false true l r h i e = cc
-checked-aok false false true r h i e = cc
-checked-aok false false false true h i e = cc
-checked-aok false false false false true i e = cc
-checked-aok false false false false false i e = refl
+checked-aok true n l r h i e = (cc, cc, cc)
+checked-aok false true l r h i e = (cc, cc, cc)
+checked-aok false false true r h i e = (cc, cc, cc)
+checked-aok false false false true h i e = (cc, cc, cc)
+checked-aok false false false false true i e = (cc, cc, cc)
+checked-aok false false false false false i e = (refl, refl, refl)
 
 -- what is fetched with AOK is this
 pub fetch-aok : (m : Memory) (a : ℕ) → fetch m a .status ≡ aok → fetch m a ≡ aokAt m a (M₁ m a / 16)
-fetch-aok m a e = fetch-is m a ∙ checked-aok _ _ _ _ _ _ (ap (λ i. i .status) (sym (fetch-is m a)) ∙ e)
+fetch-aok m a e = fetch-is m a ∙ checked-aok _ _ _ _ _ _ (ap (λ i. i .status) (sym (fetch-is m a)) ∙ e) .0
+
+-- and its code is one of 1 to 11: it has functions, and is no halt
+pub aok-code : (m : Memory) (a : ℕ) → fetch m a .status ≡ aok → (1 ≤ M₁ m a / 16) × (M₁ m a / 16 ≤ 11)
+unfolding aokAt
+aok-code m a e =
+    let code = M₁ m a / 16 in
+    let passed = checked-aok _ _ _ _ _ _ (ap (λ i. i .status) (sym (fetch-is m a)) ∙ e) in
+    let some : 0 < code = lt-of-not-le (λ h. eqb-false code 0 (passed .2) (omega arith)) in
+    let known : code < 12 = lt-of-not-le (λ h. omega (arith, leb-false (rowOf code .functions) (M₁ m a % 16) (passed .1), no-functions code h)) in
+    (omega arith, omega arith)
 
 -- a bad status is that of a nop that goes nowhere
 checked-bad : (f n l r h : Bool) (i : Instruction) (bad : Status) → i .status ≡ aok → isBad bad ≡ true → checked f n l r h i .status ≡ bad

@@ -1,11 +1,12 @@
--- The length rule, by one test computed over the sixteen rows.
-use Prim.Native.Nat.{ℕ, zero, suc, _+_, _≤_}
-use mathlib.Core.Path.{_≡_}
+-- The rules of the table's lengths and functions, each by one test computed over its rows.
+use Prim.Native.Nat.{ℕ, zero, suc, _+_, _-_, _≤_}
+use mathlib.Core.Path.{_≡_, ap, sym, _∙_}
 use mathlib.Core.Bool.{Bool, true, false, cond, _&&_}
 use mathlib.Core.List.{List, [], _∷_}
 use native.Mathlib.Omega.{arith}
 use lib.Dec.{T, ltb, eqb, eqb→eq}
-use lib.ListN.{getD}
+use lib.ListN.{getD, drop}
+use lib.Seq.{getD-drop}
 use Rattle.machine.specs.Table.{Row, RegisterByte, noByte, bothNamed, onlyB, onlyA, table, noRow, rowOf}
 
 -- is there a register byte
@@ -38,6 +39,15 @@ at f (x ∷ xs) d t e (suc k) = at f xs d (both (f x) (every f xs) t .1) e k
 pub length-rule : (code : ℕ) → rowOf code .size ≡ parts (rowOf code)
 unfolding table rowOf parts hasRegisterByte
 length-rule code = eqb→eq _ _ (at (λ row. eqb (row .size) (parts row)) table noRow tt tt code)
+
+-- the rule: from code 12 on there are no functions
+pub no-functions : (code : ℕ) → 12 ≤ code → rowOf code .functions ≡ 0
+unfolding table rowOf
+no-functions code h =
+    let e : code ≡ 12 + (code - 12) = omega arith in
+    ap (λ (k : ℕ). getD table k noRow .functions) e
+    ∙ ap (λ (row : Row). row .functions) (sym (getD-drop 12 table (code - 12) noRow))
+    ∙ eqb→eq _ _ (at (λ row. eqb (row .functions) 0) (drop 12 table) noRow tt tt (code - 12))
 
 -- with a register byte there are two bytes at least
 pub two : (row : Row) → T (hasRegisterByte (row .byte)) → 2 ≤ parts row

@@ -1,14 +1,12 @@
 -- "Running a then b cycles equals running a + b, logs joined, where none of the three is refused." A theorem of the definitions, at any
--- settings: `joined`, at the end. Assumes nothing.
+-- settings: `joined`, and `unlogged` for runs without logs. Assumes nothing.
 use mathlib.Core.Path.{_≡_, refl, ap, _∙_}
 use mathlib.Core.Bool.{Bool, true, false, cond}
 use mathlib.Core.List.{List, [], _∷_, _++_, append-assoc, append-nil}
 use Prim.Native.Nat.{ℕ, zero, suc, _+_, _-_}
 use native.Mathlib.Nat.{add-zero, add-suc}
 use native.Mathlib.Omega.{arith}
-use lib.Dec.{eqb}
 use lib.ListN.{length, take, drop, length-append}
-use borrow.Author.Tests.{eqb-false}
 use Rattle.machine.specs.declared.Pipeline.{Pipeline}
 use Rattle.machine.specs.declared.StageD.{StageD}
 use Rattle.machine.specs.declared.StageD.the-variants.{BubbleD as bubbleD, InD as inD}
@@ -18,8 +16,10 @@ use Rattle.machine.specs.Types.{isBad}
 use Rattle.machine.specs.Memory.{Memory}
 use Rattle.machine.specs.Prediction.{Settings}
 use Rattle.machine.specs.Pipeline.{Piped, pipedOf, source, sourceM, sourceW, waits, mispredicts, returns, fails, fetchAddress, fetchedNow, nextF, nextD, nextE, nextM, nextCodes, decodedD, retiredAfter, logged, advanced, stoppedIn, clockBy, clock, clocks}
-use Rattle.machine.specs.Runs.{laid, pipeRefusal, PipeAnswer, pipeAnswer, pipeDone, pipeBy, pipeRun}
+use Rattle.machine.specs.Runs.{laid, pipeRefusal, PipeAnswer, pipeAnswer, pipeDone, pipeBy, pipeRun, pipeRunUnlogged}
 use Rattle.answers.specs.Logs.{laid-joined}
+use Rattle.answers.specs.Refusals.{ran}
+use Rattle.answers.specs.Joined.{Engine, moved}
 
 -- with entries before those of p
 before : List ℕ → List ℕ → Piped → Piped
@@ -115,20 +115,17 @@ module _ (g : Settings) where
       let s = clocks g p a in
       clocks-add p a b ∙ simp append-nil at (clocks-before g (s .addressLog) (s .cycleLog) (pipedOf (s .pipeline) (s .memory)) b)
 
+  -- a run that is not refused, with logs or without
+  done : (logs : List ℕ) (k : Pipeline) (m : Memory) (n : ℕ) (a y : List ℕ) → pipeBy g logs k m n a y .number ≡ 0
+      → pipeBy g logs k m n a y ≡ pipeDone (clocks g (pipedOf k m) n) a y
+  unfolding pipeBy
+  done logs k m n a y h = ran (λ o. o .number) (pipeRefusal k (length m) n logs) _ _ refl h
+
+  done-run : (k : Pipeline) (m : Memory) (n : ℕ) (a y : List ℕ) → pipeRun g k m n a y .number ≡ 0 → pipeRun g k m n a y ≡ pipeDone (clocks g (pipedOf k m) n) a y
+  unfolding pipeRun
+  done-run k m n a y h = done (length a ∷ length y ∷ []) k m n a y h
+
   -- THE THEOREM
-  -- a run that is not refused
-  done : (k : Pipeline) (m : Memory) (n : ℕ) (a y : List ℕ) → pipeRun g k m n a y .number ≡ 0 → pipeRun g k m n a y ≡ pipeDone (clocks g (pipedOf k m) n) a y
-  unfolding pipeRun pipeBy
-  done k m n a y = go (eqb refusal 0) refl
-    where
-      refusal : ℕ
-      refusal = pipeRefusal k (length m) n (length a ∷ length y ∷ [])
-
-      go : (b : Bool) → eqb refusal 0 ≡ b → cond b (pipeDone (clocks g (pipedOf k m) n) a y) (pipeAnswer refusal k m a y) .number ≡ 0
-          → cond b (pipeDone (clocks g (pipedOf k m) n) a y) (pipeAnswer refusal k m a y) ≡ pipeDone (clocks g (pipedOf k m) n) a y
-      go true e h = refl
-      go false e h = absurd (eqb-false refusal 0 e h)
-
   -- the answers f, h and b of the first run, the second and both, over the states s and r in which the first two end
   from-states : (s r : Piped) (n : ℕ) (log times : List ℕ) (f h b : PipeAnswer) → f .addresses ≡ laid (s .addressLog) log → f .cycles ≡ laid (s .cycleLog) times
       → n ≡ length (s .addressLog) → n ≡ length (s .cycleLog) → h ≡ pipeDone r (drop n (f .addresses)) (drop n (f .cycles)) → b ≡ pipeDone (before (s .addressLog) (s .cycleLog) r) log times
@@ -158,11 +155,40 @@ module _ (g : Settings) where
     joined hf hs hb =
         let s = clocks g (pipedOf k m) a in
         let e = clocks-even (pipedOf k m) a in
-        let f = done k m a log times hf in
+        let f = done-run k m a log times hf in
         let p : first .pipeline ≡ s .pipeline = ap (λ (t : PipeAnswer). t .pipeline) f in
         let y : first .memory ≡ s .memory = ap (λ (t : PipeAnswer). t .memory) f in
         let n = ap (λ (x : Pipeline). x .retired) p in
         from-states s (clocks g (pipedOf (first .pipeline) (first .memory)) b) retirements log times first second both
         (ap (λ (t : PipeAnswer). t .addresses) f) (ap (λ (t : PipeAnswer). t .cycles) f) (omega (arith, e .addresses, n)) (omega (arith, e .cycles, n))
-        (done (first .pipeline) (first .memory) b (drop retirements (first .addresses)) (drop retirements (first .cycles)) hs)
-        (done k m (a + b) log times hb ∙ rw (p, y) (ap (λ (t : Piped). pipeDone t log times) (clocks-join (pipedOf k m) a b)))
+        (done-run (first .pipeline) (first .memory) b (drop retirements (first .addresses)) (drop retirements (first .cycles)) hs)
+        (done-run k m (a + b) log times hb ∙ rw (p, y) (ap (λ (t : Piped). pipeDone t log times) (clocks-join (pipedOf k m) a b)))
+
+  -- WITHOUT LOGS
+  -- record and memory after a clock
+  unfoldable clocked : Pipeline × Memory → Pipeline × Memory
+  clocked x = let p = clock g (pipedOf (x .0) (x .1)) in (p .pipeline, p .memory)
+
+  -- what so many clocks leave, though each logs
+  clocks-moved : (k : Pipeline) (m : Memory) (n : ℕ) → let p = clocks g (pipedOf k m) n in (p .pipeline, p .memory) ≡ moved clocked (k, m) n
+  unfolding clocks moved clocked before
+  clocks-moved k m zero = refl
+  clocks-moved k m (suc n) =
+      let p = clocks g (pipedOf k m) n in
+      ap (λ (t : Piped). (t .pipeline, t .memory)) (simp append-nil at (clock-before g (p .addressLog) (p .cycleLog) (pipedOf (p .pipeline) (p .memory))))
+      ∙ ap clocked (clocks-moved k m n)
+
+  ran-moved : (k : Pipeline) (m : Memory) (n : ℕ) → pipeRunUnlogged g k m n .number ≡ 0
+      → let o = pipeRunUnlogged g k m n in (o .pipeline, o .memory) ≡ moved clocked (k, m) n
+  unfolding pipeRunUnlogged pipeDone
+  ran-moved k m n h = ap (λ (o : PipeAnswer). (o .pipeline, o .memory)) (done [] k m n [] [] h) ∙ clocks-moved k m n
+
+  -- the pipelined engine without logs: `answers` `Joined` `joined` and `ones-join` hold of it, and a run of 1 is a clock
+  pub unlogged : Engine
+  unlogged =
+      record {
+        State = Pipeline × Memory;
+        move = clocked;
+        run = λ x n. let o = pipeRunUnlogged g (x .0) (x .1) n in (o .number, (o .pipeline, o .memory));
+        moves = λ x n h. ran-moved (x .0) (x .1) n h;
+      }
