@@ -37,7 +37,7 @@ put-decimal-same-length : (t : ℕ) → put-decimal-lts.Need-same-length (put-by
 put-decimal-same-length t c = put-length (c .before .before .put-byte .ensures)
 
 put-decimal-returns : (t : ℕ) → put-decimal-lts.Need-returns (put-byte-reads.Asked, put-byte-reads.Learnt, put-decimal-below t, put-decimal.Post) (put-decimal-at t) put-decimal.Post
-put-decimal-returns t c = one-digit (omega arith) (c .before .before .put-byte .ensures)
+put-decimal-returns t c = (one-digit (omega arith) (c .before .before .put-byte .ensures), omega (arith, c .before .before .put-byte .ensures .place))
 
 put-decimal-put-decimal-requires : (t : ℕ) → put-decimal-lts.Need-put-decimal-requires (put-byte-reads.Asked, put-byte-reads.Learnt, put-decimal-below t, put-decimal.Post) (put-decimal-at t) put-decimal.Post
 put-decimal-put-decimal-requires t c κs = (omega (arith, tenth-less (c .before .before .before .args .n) (omega arith), c .before .before .before .pre .0), omega arith)
@@ -49,13 +49,13 @@ put-decimal-add-put-byte-2 : (t : ℕ) → put-decimal-lts.Need-add-put-byte-2 (
 put-decimal-add-put-byte-2 t c = omega (arith, mod-lt (c .before .before .before .before .before .before .before .args .n) {m = 10} (omega arith))
 
 put-decimal-put-byte-requires-2 : (t : ℕ) → put-decimal-lts.Need-put-byte-requires-2 (put-byte-reads.Asked, put-byte-reads.Learnt, put-decimal-below t, put-decimal.Post) (put-decimal-at t) put-decimal.Post
-put-decimal-put-byte-requires-2 t c κs = omega (arith, c .before .before .before .put-decimal .ensures .place, tenth-length (c .before .before .before .before .before .before .before .args .n) (omega arith))
+put-decimal-put-byte-requires-2 t c κs = omega (arith, c .before .before .before .put-decimal .ensures .0 .place, tenth-length (c .before .before .before .before .before .before .before .args .n) (omega arith))
 
 put-decimal-same-length-2 : (t : ℕ) → put-decimal-lts.Need-same-length-2 (put-byte-reads.Asked, put-byte-reads.Learnt, put-decimal-below t, put-decimal.Post) (put-decimal-at t) put-decimal.Post
-put-decimal-same-length-2 t c = put-length (c .before .before .put-byte2 .ensures) ∙ put-length (c .before .before .before .before .before .before .put-decimal .ensures)
+put-decimal-same-length-2 t c = put-length (c .before .before .put-byte2 .ensures) ∙ put-length (c .before .before .before .before .before .before .put-decimal .ensures .0)
 
 put-decimal-returns-2 : (t : ℕ) → put-decimal-lts.Need-returns-2 (put-byte-reads.Asked, put-byte-reads.Learnt, put-decimal-below t, put-decimal.Post) (put-decimal-at t) put-decimal.Post
-put-decimal-returns-2 t c = more-digits (omega arith) (c .before .before .before .before .before .before .put-decimal .ensures) (c .before .before .put-byte2 .ensures)
+put-decimal-returns-2 t c = (more-digits (omega arith) (c .before .before .before .before .before .before .put-decimal .ensures .0) (c .before .before .put-byte2 .ensures), omega (arith, c .before .before .before .before .before .before .put-decimal .ensures .0 .place, c .before .before .put-byte2 .ensures .place, tenth-length (c .before .before .before .before .before .before .before .before .before .before .args .n) (omega arith)))
 
 pub +put-decimal-spec : {M : Type 1} → statement M
 +put-decimal-spec =
