@@ -1,0 +1,7 @@
+// Texts in lent buffers: what every writer and reader of a text shares.
+mod decimal;
+mod putting;
+
+pub use decimal::put_decimal;
+pub use putting::put_byte;
+pub use putting::put_text;
