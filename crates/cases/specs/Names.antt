@@ -3,6 +3,7 @@ pub use Rattle.machine.specs.declared.Status.{Status}
 pub use Rattle.machine.specs.declared.Status.the-variants.{Aok as aok, Hlt as hlt, Adr as adr, Ins as ins}
 pub use Rattle.machine.specs.declared.Codes.{Codes}
 pub use Rattle.machine.specs.declared.Instruction.{Instruction}
+pub use Rattle.machine.specs.declared.FetchAnswer.{FetchAnswer}
 pub use Rattle.machine.specs.declared.Executed.{Executed}
 pub use Rattle.machine.specs.declared.Machine.{Machine}
 pub use Rattle.machine.specs.declared.Pipeline.{Pipeline}

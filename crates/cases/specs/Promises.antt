@@ -4,13 +4,12 @@ use Prim.Native.Nat.{ℕ}
 use mathlib.Core.Path.{_≡_}
 use mathlib.Core.List.{List}
 use Rattle.machine.specs.Memory.{Memory, Registers}
-use Rattle.machine.specs.Fetch.{fetch}
 use Rattle.machine.specs.Prediction.{asIn01}
 use Rattle.machine.specs.Plain.{plainStart}
 use Rattle.machine.specs.Pipeline.{pipeStart}
-use Rattle.machine.specs.Runs.{PlainAnswer, PipeAnswer, plainStep, plainRun, pipeClock, pipeRun, pipeRunUnlogged}
+use Rattle.machine.specs.Runs.{fetchAnswer, PlainAnswer, PipeAnswer, plainStep, plainRun, pipeClock, pipeRun, pipeRunUnlogged}
 use Rattle.edge.specs.Edge.{Edge, replayed}
-use Rattle.cases.specs.Names.{Codes, Instruction, Machine, Pipeline}
+use Rattle.cases.specs.Names.{Codes, FetchAnswer, Machine, Pipeline}
 
 -- an open operation: what a caller gives and lends; what it has afterwards, the number, the record and all lent bytes and words; and the
 -- definition that its contract equates with that
@@ -30,9 +29,9 @@ Promise o f = (x : o .Given) → Fits o x (f x)
 abbrev promising : (G A : Type 0) → (G → A) → Operation
 promising G A f = record { Given = G; Answer = A; promised = f }
 
--- fetching::fetch: the instruction at an address, or the nop with a bad status that stands for it
+-- fetching::fetch: the number, and the instruction at an address, or the nop with a bad status that stands for it
 abbrev pub fetching : Operation
-fetching = promising (Memory × ℕ) Instruction (λ x. fetch (x .0) (x .1))
+fetching = promising (Memory × ℕ) FetchAnswer (λ x. fetchAnswer (x .0) (x .1))
 
 -- plain::start: a fresh start of registers, codes and address
 abbrev pub plain-start : Operation

@@ -12,6 +12,7 @@ use Rattle.machine.specs.Words.{sum, number}
 use Rattle.machine.specs.Memory.{Memory, inside, load}
 use Rattle.machine.specs.Table.{rowOf, RegisterByte, noByte, bothNamed, onlyB, onlyA}
 use Rattle.machine.specs.Fetch.{stopping, halvesFit, half, checked, fetch}
+use Rattle.machine.specs.Runs.{sizeRefused, lowest, fetchAnswer}
 use Rattle.published.specs.Lengths.{hasRegisterByte, length-rule, two}
 use Rattle.published.specs.Fetching.{aokAt, fetch-is}
 use Rattle.lookup.specs.Numbers.{byteNumber}
@@ -117,3 +118,14 @@ constant-there m at size c fits long e = cc (lt-ltb 8 size long, lt-ltb (at + (s
 
 pub no-constant : (m : Memory) (at size : ℕ) → size ≤ 8 → 0 ≡ cond (ltb 8 size) (number 8 m (at + (size - 8))) 0
 no-constant m at size short = cc (le-ltb 8 size short)
+
+-- THE OPEN ENTRY
+pub refused : (m : Memory) (a : ℕ) (t : Bool) (i : Instruction) → t ≡ sizeRefused (length m) → t ≡ true → i ≡ stopping a adr
+    → record { number = 1; instruction = i } ≡ fetchAnswer m a
+unfolding fetchAnswer lowest
+refused m a t i e h s = cc
+
+pub answered : (m : Memory) (a : ℕ) (t : Bool) (i : Instruction) → t ≡ sizeRefused (length m) → t ≡ false → i ≡ fetch m a
+    → record { number = 0; instruction = i } ≡ fetchAnswer m a
+unfolding fetchAnswer lowest
+answered m a t i e h s = cc

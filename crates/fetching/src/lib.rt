@@ -1,8 +1,13 @@
 // Fetch: document 01's checks in their order.
+use answers::size_refused;
 use lookup::byte_of;
 use lookup::functions_of;
 use lookup::size_of;
+use machine::FetchAnswer;
+use machine::HALT;
 use machine::Instruction;
+use machine::NONE;
+use machine::NOP;
 use machine::Status;
 ghost use mathlib.Core.Path.{_≡_};
 ghost use mathlib.Core.Bool.{cond};
@@ -11,6 +16,7 @@ ghost use lib.Dec.{eqb, ltb};
 ghost use lib.ListN.{length, getD};
 ghost use Rattle.machine.specs.Words.{number};
 ghost use Rattle.machine.specs.Fetch.{fetch as fetchOf, stopping as stoppingOf};
+ghost use Rattle.machine.specs.Runs.{fetchAnswer};
 ghost use Rattle.fetching.specs.Halves.{halvesFitBy};
 
 // An instruction fetched with a bad status travels as a nop with that status.
@@ -20,10 +26,10 @@ fn stopping(address: u64, status: Status) -> Instruction
     Instruction {
         address,
         status,
-        code: 1,
+        code: NOP,
         function: 0,
-        ra: 15,
-        rb: 15,
+        ra: NONE,
+        rb: NONE,
         constant: 0,
         next: address,
     }
@@ -64,7 +70,8 @@ fn constant_of(memory: &[u8], at: usize, size: u8) -> u64
     }
 }
 
-pub fn fetch(memory: &[u8], address: u64) -> Instruction
+// For the engines, which have tested the size of memory.
+pub fn instruction_at(memory: &[u8], address: u64) -> Instruction
     ensures { λ r. ⌜ r ≡ fetchOf (now (memory .entry)) address ⌝ }
 {
     let n = memory.len() as u64;
@@ -91,7 +98,7 @@ pub fn fetch(memory: &[u8], address: u64) -> Instruction
     if !halves_fit(byte, ra, rb) {
         return stopping(address, Status::Ins); // a register or a filler
     }
-    if code == 0 {
+    if code == HALT {
         return stopping(address, Status::Hlt);
     }
     Instruction {
@@ -103,5 +110,21 @@ pub fn fetch(memory: &[u8], address: u64) -> Instruction
         rb,
         constant: constant_of(memory, at, size),
         next: word::sum(address, size as u64),
+    }
+}
+
+// The open entry: refusal 1, with the nop that a fetch outside memory gives, or 0 and the instruction.
+pub fn fetch(memory: &[u8], address: u64) -> FetchAnswer
+    ensures { λ r. ⌜ r ≡ fetchAnswer (now (memory .entry)) address ⌝ }
+{
+    if size_refused(memory.len()) {
+        return FetchAnswer {
+            number: 1,
+            instruction: stopping(address, Status::Adr),
+        };
+    }
+    FetchAnswer {
+        number: 0,
+        instruction: instruction_at(memory, address),
     }
 }

@@ -1,5 +1,5 @@
 // One clock of the stages: what stands in F to W, and the codes, with registers and memory beside them.
-use fetching::fetch;
+use fetching::instruction_at;
 use machine::Codes;
 use machine::Instruction;
 use machine::StageD;
@@ -79,7 +79,7 @@ fn signals_now(
 fn fetch_now(m: StageM, w: StageW, predicted: u64, memory: &[u8]) -> Instruction
     ensures { λ r. ⌜ r ≡ fetchedIn m w predicted (now (memory .entry)) ⌝ }
 {
-    fetch(memory, fetch_address(m, w, predicted))
+    instruction_at(memory, fetch_address(m, w, predicted))
 }
 
 // W writes its registers before decode reads them, so that nothing of W's has to be forwarded.

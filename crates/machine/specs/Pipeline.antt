@@ -2,7 +2,8 @@
 use Prim.Native.Nat.{ℕ, zero, suc, _+_}
 use mathlib.Core.Bool.{Bool, false, cond, _||_}
 use mathlib.Core.List.{List, [], _∷_, _++_}
-use Rattle.machine.specs.Types.{Pipeline, Instruction, Accessed, Codes, aok, isBad, StageD, bubbleD, inD, StageE, bubbleE, inE, StageM, bubbleM, inM, StageW, bubbleW, inW, Kept, noneKept, lastKept, Kinds}
+use Rattle.machine.specs.Types.{Pipeline, Instruction, Accessed, Codes, aok, isBad, Kinds}
+use Rattle.machine.specs.Types.{StageD, bubbleD, inD, StageE, bubbleE, inE, StageM, bubbleM, inM, StageW, bubbleW, inW, Kept, noneKept, lastKept}
 use Rattle.machine.specs.Memory.{Memory, Registers, value}
 use Rattle.machine.specs.Table.{is, ret}
 use Rattle.machine.specs.Fetch.{fetch}

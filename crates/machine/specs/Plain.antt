@@ -58,7 +58,15 @@ performed s =
 unfoldable pub stoppedBy : Plain → Status → Plain
 stoppedBy s bad =
     record {
-      machine = record { registers = s .machine .registers; codes = s .machine .codes; address = s .machine .address; status = bad; last = s .machine .address; count = s .machine .count + 1 };
+      machine =
+          record {
+            registers = s .machine .registers;
+            codes = s .machine .codes;
+            address = s .machine .address;
+            status = bad;
+            last = s .machine .address;
+            count = s .machine .count + 1;
+          };
       memory = s .memory;
       log = s .log ++ s .machine .address ∷ [];
     }

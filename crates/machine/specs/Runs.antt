@@ -4,8 +4,10 @@ use mathlib.Core.Bool.{Bool, false, cond, _&&_, _||_}
 use mathlib.Core.List.{List, [], _∷_}
 use lib.Dec.{ltb, leb, eqb}
 use lib.ListN.{length}
-use Rattle.machine.specs.Types.{Machine, Pipeline, Instruction, StageD, bubbleD, inD, StageE, bubbleE, inE, StageM, bubbleM, inM, StageW, bubbleW, inW, Kept, noneKept, lastKept}
+use Rattle.machine.specs.Types.{Machine, Pipeline, Instruction, FetchAnswer, adr}
+use Rattle.machine.specs.Types.{StageD, bubbleD, inD, StageE, bubbleE, inE, StageM, bubbleM, inM, StageW, bubbleW, inW, Kept, noneKept, lastKept}
 use Rattle.machine.specs.Memory.{Memory}
+use Rattle.machine.specs.Fetch.{fetch, stopping}
 use Rattle.machine.specs.Table.{rowOf, is, cmov, operation, jump}
 use Rattle.machine.specs.Prediction.{Settings}
 use Rattle.machine.specs.Plain.{Plain, plainOf, steps}
@@ -72,6 +74,12 @@ recordRefused k =
 unfoldable pub lowest : List (ℕ × Bool) → ℕ
 lowest [] = 0
 lowest (t ∷ ts) = cond (t .1) (t .0) (lowest ts)
+
+-- FETCHING, which has no record to give back: refused, it answers the nop that a fetch outside memory gives
+unfoldable pub fetchAnswer : Memory → ℕ → FetchAnswer
+fetchAnswer m a =
+    let n = lowest ((1, sizeRefused (length m)) ∷ []) in
+    record { number = n; instruction = cond (eqb n 0) (fetch m a) (stopping a adr) }
 
 -- THE PLAIN RUN
 abbrev pub plainLimit : ℕ

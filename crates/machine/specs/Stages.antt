@@ -11,7 +11,8 @@ use mir.Syntax.{w64}
 use Rattle.machine.specs.Types.{Instruction, Decoded, Executed, Accessed, Codes, Status, adr, isBad}
 use Rattle.machine.specs.Words.{sum, difference, signed, outside}
 use Rattle.machine.specs.Memory.{Memory, Registers, inside, load, store, written}
-use Rattle.machine.specs.Table.{rowOf, is, cmov, operation, jump, call, ret, Which, none, rA, rB, rsp, Computes, nothing, bOpA, justA, justC, bPlusC, bLess8, bPlus8, Accesses, noAccess, loadsAtE, loadsAtA, storesA, storesNext}
+use Rattle.machine.specs.Table.{rowOf, is, cmov, operation, jump, call, ret, Which, none, rA, rB, rsp}
+use Rattle.machine.specs.Table.{Computes, nothing, bOpA, justA, justC, bPlusC, bLess8, bPlus8, Accesses, noAccess, loadsAtE, loadsAtA, storesA, storesNext}
 
 -- the number of a register of the instruction; "15 means none", and rsp is 4
 unfoldable pub register : Which → Instruction → ℕ

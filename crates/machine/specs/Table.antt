@@ -43,22 +43,27 @@ row l f y a b e m t u = record { size = l; functions = f; byte = y; a = a; b = b
 abbrev pub noRow : Row
 noRow = row 1 0 noByte none none nothing noAccess none none
 
--- 0 halt, 1 nop, 2 cmovXX, 3 irmovq, 4 rmmovq, 5 mrmovq, 6 OPq, 7 jXX, 8 call, 9 ret, A pushq, B popq, C to F
+-- a row for each code
 unfoldable pub table : List Row
 table =
-    row 1 1 noByte none none nothing noAccess none none
-    ∷ row 1 1 noByte none none nothing noAccess none none
-    ∷ row 2 7 bothNamed rA none justA noAccess rB none
-    ∷ row 10 1 onlyB none none justC noAccess rB none
-    ∷ row 10 1 bothNamed rA rB bPlusC storesA none none
-    ∷ row 10 1 bothNamed none rB bPlusC loadsAtE none rA
-    ∷ row 2 4 bothNamed rA rB bOpA noAccess rB none
-    ∷ row 9 7 noByte none none nothing noAccess none none
-    ∷ row 9 1 noByte none rsp bLess8 storesNext rsp none
-    ∷ row 1 1 noByte rsp rsp bPlus8 loadsAtA rsp none
-    ∷ row 2 1 onlyA rA rsp bLess8 storesA rsp none
-    ∷ row 2 1 onlyA rsp rsp bPlus8 loadsAtA rsp rA
-    ∷ noRow ∷ noRow ∷ noRow ∷ noRow ∷ []
+    -- size functions byte a b computes accesses target loaded
+    row 1 1 noByte none none nothing noAccess none none  -- 0 halt
+    ∷ row 1 1 noByte none none nothing noAccess none none  -- 1 nop
+    ∷ row 2 7 bothNamed rA none justA noAccess rB none  -- 2 cmovXX
+    ∷ row 10 1 onlyB none none justC noAccess rB none  -- 3 irmovq
+    ∷ row 10 1 bothNamed rA rB bPlusC storesA none none  -- 4 rmmovq
+    ∷ row 10 1 bothNamed none rB bPlusC loadsAtE none rA  -- 5 mrmovq
+    ∷ row 2 4 bothNamed rA rB bOpA noAccess rB none  -- 6 OPq
+    ∷ row 9 7 noByte none none nothing noAccess none none  -- 7 jXX
+    ∷ row 9 1 noByte none rsp bLess8 storesNext rsp none  -- 8 call
+    ∷ row 1 1 noByte rsp rsp bPlus8 loadsAtA rsp none  -- 9 ret
+    ∷ row 2 1 onlyA rA rsp bLess8 storesA rsp none  -- A pushq
+    ∷ row 2 1 onlyA rsp rsp bPlus8 loadsAtA rsp rA  -- B popq
+    ∷ noRow  -- C
+    ∷ noRow  -- D
+    ∷ noRow  -- E
+    ∷ noRow  -- F
+    ∷ []
 
 unfoldable pub rowOf : ℕ → Row
 rowOf code = getD table code noRow

@@ -1,4 +1,33 @@
-// The types of both engines. What they mean, document 01's rules, is in specs/.
+// The numbers of document 01 that the code names, and the types of both engines. What they mean, document 01's rules, is in specs/.
+
+// The codes that a rule names by themselves.
+pub const HALT: u8 = 0;
+
+pub const NOP: u8 = 1;
+
+pub const CMOV: u8 = 2;
+
+pub const OPERATION: u8 = 6;
+
+pub const JUMP: u8 = 7;
+
+pub const CALL: u8 = 8;
+
+pub const RET: u8 = 9;
+
+// Registers 0 to 14, of which 4 is rsp; "15 means none".
+pub const REGISTERS: usize = 15;
+
+pub const RSP: u8 = 4;
+
+pub const NONE: u8 = 15;
+
+// The most that is not refused: bytes of memory, instructions of the plain engine, cycles of the pipeline.
+pub const MEMORY_LIMIT: usize = 4096;
+
+pub const PLAIN_LIMIT: u64 = 65536;
+
+pub const PIPE_LIMIT: u64 = 262145;
 
 // AOK, or why a machine stopped.
 pub enum Status {
@@ -17,7 +46,7 @@ pub struct Codes {
 
 // The plain engine's machine record.
 pub struct Machine {
-    pub registers: [u64; 15],
+    pub registers: [u64; REGISTERS],
     pub codes: Codes,
     pub address: u64,
     pub status: Status,
@@ -35,6 +64,12 @@ pub struct Instruction {
     pub rb: u8,
     pub constant: u64,
     pub next: u64,
+}
+
+// What fetching answers: document 01's number, 0 or that of a refusal, and the instruction.
+pub struct FetchAnswer {
+    pub number: u64,
+    pub instruction: Instruction,
 }
 
 // What stands in E: an instruction with the values of its two sources.
@@ -107,7 +142,7 @@ pub struct Pipeline {
     pub e: StageE,
     pub m: StageM,
     pub w: StageW,
-    pub registers: [u64; 15],
+    pub registers: [u64; REGISTERS],
     pub codes: Codes,
     pub status: Status,
     pub last: u64,

@@ -1,5 +1,5 @@
 // The plain engine: one instruction at a time.
-use fetching::fetch;
+use fetching::instruction_at;
 use isa::accessing::access;
 use isa::accessing::update;
 use isa::decoding::is_bad;
@@ -122,7 +122,7 @@ fn advance(m: Machine, memory: &mut [u8]) -> Machine
     requires { ⌜ (m .count < 65536) × (isBad (m .status) ≡ false) ⌝ }
     ensures { λ r. ⌜ (r ≡ stepOf (plainOf m (now (memory .entry))) .machine) × (now (memory .exit) ≡ stepOf (plainOf m (now (memory .entry))) .memory) ⌝ }
 {
-    let i = fetch(memory, m.address);
+    let i = instruction_at(memory, m.address);
     let x = decoded(m, i);
     let codes = m.codes;
     let e = execute(x, codes);

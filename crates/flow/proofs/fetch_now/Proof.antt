@@ -6,11 +6,11 @@ use Rattle.flow.proofs.fetch_now.Tie as tie
 fetch-address-requires : tie.Need-fetch-address-requires
 fetch-address-requires c κs = search needs
 
-fetch-requires : tie.Need-fetch-requires
-fetch-requires c κs = search needs
+instruction-at-requires : tie.Need-instruction-at-requires
+instruction-at-requires c κs = search needs
 
 returns : tie.Need-returns
 returns c = search (needs, fetched-is)
 
 pub fetch-now-spec : {M : Type 1} → statement M
-fetch-now-spec = tie.close (tie.spec fetch-address-requires fetch-requires returns)
+fetch-now-spec = tie.close (tie.spec fetch-address-requires instruction-at-requires returns)

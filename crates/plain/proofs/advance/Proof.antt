@@ -1,10 +1,12 @@
+-- One instruction, stage by stage: each `let` names the record of facts behind a stage's call. The two ways out are those of the definition's step,
+-- the stop (`Ways` `stops`) and the instruction performed (`Ways` `performs`).
 use Rattle.plain.proofs.Ways.{stops, performs}
 use borrow.Author.Needs.{needs}
 use Rattle.plain.proofs.advance.Statement.{statement}
 use Rattle.plain.proofs.advance.Tie as tie
 
-fetch-requires : tie.Need-fetch-requires
-fetch-requires c κs = search needs
+instruction-at-requires : tie.Need-instruction-at-requires
+instruction-at-requires c κs = search needs
 
 decoded-requires : tie.Need-decoded-requires
 decoded-requires c κs = search needs
@@ -25,7 +27,15 @@ same-length : tie.Need-same-length
 same-length c = search needs
 
 returns : tie.Need-returns
-returns c = stops _ _ _ _ _ _ _ (c .before .before .before .before .before .before .before .before .before .before .before .pre .1) (c .before .before .before .before .before .before .before .before .fetch .ensures) (c .before .before .before .before .before .before .before .decoded .ensures) (c .before .before .before .before .before .execute .ensures) (c .before .before .before .access .ensures) (c .before .before .is-bad .ensures) _ (c .before .if1 .taken) (c .after-stop .ensures)
+returns c =
+    let tested = c .before .before in
+    let access = tested .before in
+    let execute = access .before .before in
+    let decode = execute .before .before in
+    let fetch = decode .before in
+    let start = fetch .before .before .before in
+    stops _ _ _ _ _ _ _ (start .pre .1) (fetch .instruction-at .ensures) (decode .decoded .ensures) (execute .execute .ensures) (access .access .ensures)
+    (tested .is-bad .ensures) _ (c .before .if1 .taken) (c .after-stop .ensures)
 
 update-requires : tie.Need-update-requires
 update-requires c κs = search needs
@@ -37,13 +47,23 @@ same-length-2 : tie.Need-same-length-2
 same-length-2 c = search needs
 
 returns-2 : tie.Need-returns-2
-returns-2 c = performs _ _ _ _ _ _ _ (c .before .before .before .before .before .before .before .before .before .before .before .before .before .before .before .pre .1) (c .before .before .before .before .before .before .before .before .before .before .before .before .fetch .ensures) (c .before .before .before .before .before .before .before .before .before .before .before .decoded .ensures) (c .before .before .before .before .before .before .before .before .before .execute .ensures) (c .before .before .before .before .before .before .before .access .ensures) (c .before .before .before .before .before .before .is-bad .ensures) _ _ (c .before .before .before .before .before .if1 .left) (c .before .before .before .update .ensures) (c .after-performed .ensures)
+returns-2 c =
+    let updated = c .before .before .before in
+    let runs = updated .before .before in
+    let tested = runs .before in
+    let access = tested .before in
+    let execute = access .before .before in
+    let decode = execute .before .before in
+    let fetch = decode .before in
+    let start = fetch .before .before .before in
+    performs _ _ _ _ _ _ _ (start .pre .1) (fetch .instruction-at .ensures) (decode .decoded .ensures) (execute .execute .ensures) (access .access .ensures)
+    (tested .is-bad .ensures) _ _ (runs .if1 .left) (updated .update .ensures) (c .after-performed .ensures)
 
 pub advance-spec : {M : Type 1} → statement M
 advance-spec =
     tie.close
     (tie.spec
-    fetch-requires
+    instruction-at-requires
     decoded-requires
     execute-requires
     access-requires

@@ -1,0 +1,122 @@
+-- A law of `Parse` for each way out, in the order of the checks. What is past all of them is the instruction: `whole` is the record of facts where
+-- no byte is missing, `sized` where the table has given the length, `named` where the halves of the register byte have been tested.
+use Rattle.fetching.proofs.Parse.{room, outside, no-function, cut-short, misnamed, halts, fetches, second}
+use Prim.Native.Nat.{_-_}
+use lib.ListN.{length}
+use mathlib.Core.Path.{_∙_}
+use native.Mathlib.Omega.{arith}
+use borrow.Author.Needs.{needs}
+use Rattle.fetching.proofs.instruction_at.Statement.{statement}
+use Rattle.fetching.proofs.instruction_at.Tie as tie
+
+stopping-requires : tie.Need-stopping-requires
+stopping-requires c κs = search needs
+
+returns : tie.Need-returns
+returns c = search (needs, outside)
+
+shared-slice-read-first : tie.Need-shared-slice-read-first
+shared-slice-read-first c = search needs
+
+functions-of-requires : tie.Need-functions-of-requires
+functions-of-requires c κs = search needs
+
+size-of-requires : tie.Need-size-of-requires
+size-of-requires c κs = search needs
+
+cast-whole : tie.Need-cast-whole
+cast-whole c = search needs
+
+sub-whole : tie.Need-sub-whole
+sub-whole c = search needs
+
+stopping-requires-2 : tie.Need-stopping-requires-2
+stopping-requires-2 c κs = search needs
+
+returns-2 : tie.Need-returns-2
+returns-2 c = search (needs, no-function)
+
+stopping-requires-3 : tie.Need-stopping-requires-3
+stopping-requires-3 c κs = search needs
+
+returns-3 : tie.Need-returns-3
+returns-3 c = search (needs, cut-short)
+
+byte-of-requires : tie.Need-byte-of-requires
+byte-of-requires c κs = search needs
+
+register-byte-requires : tie.Need-register-byte-requires
+register-byte-requires c κs =
+    let whole = c .before in
+    let sized = whole .before .before in
+    let start = sized .before .before .before .before .before in
+    λ h. omega (
+      arith,
+      second _ (λ e. h (c .byte-of .ensures ∙ e)),
+      room (sized .size-of .result) (length (start .args .memory .now) - start .args .address) (whole .if3 .left),
+    )
+
+halves-fit-requires : tie.Need-halves-fit-requires
+halves-fit-requires c κs = search needs
+
+stopping-requires-4 : tie.Need-stopping-requires-4
+stopping-requires-4 c κs = search needs
+
+returns-4 : tie.Need-returns-4
+returns-4 c = search (needs, misnamed)
+
+stopping-requires-5 : tie.Need-stopping-requires-5
+stopping-requires-5 c κs = search needs
+
+returns-5 : tie.Need-returns-5
+returns-5 c = search (needs, halts)
+
+constant-of-requires : tie.Need-constant-of-requires
+constant-of-requires c κs =
+    let whole = c .before .before .before .before .before in
+    let sized = whole .before .before in
+    let start = sized .before .before .before .before .before in
+    omega (arith, room (sized .size-of .result) (length (start .args .memory .now) - start .args .address) (whole .if3 .left))
+
+cast-sum : tie.Need-cast-sum
+cast-sum c = search needs
+
+sum-requires : tie.Need-sum-requires
+sum-requires c κs = search needs
+
+returns-6 : tie.Need-returns-6
+returns-6 c =
+    let named = c .before .before .before .before in
+    let whole = named .before .before .before in
+    let sized = whole .before .before in
+    let there = sized .before .before .before in
+    fetches _ _ _ (there .if1 .left) (sized .before .functions-of .ensures) _ (whole .before .if2 .left) (sized .size-of .ensures) _ _ _ (whole .if3 .left)
+    (named .before .before .byte-of .ensures) (named .before .register-byte .ensures) (named .halves-fit .ensures) _ _ (c .before .before .before .if4 .left)
+    (c .before .before .if5 .left) (c .before .constant-of .ensures) (c .sum .ensures)
+
+pub instruction-at-spec : {M : Type 1} → statement M
+instruction-at-spec =
+    tie.close
+    (tie.spec
+    stopping-requires
+    returns
+    shared-slice-read-first
+    functions-of-requires
+    size-of-requires
+    cast-whole
+    sub-whole
+    stopping-requires-2
+    returns-2
+    stopping-requires-3
+    returns-3
+    byte-of-requires
+    register-byte-requires
+    halves-fit-requires
+    stopping-requires-4
+    returns-4
+    stopping-requires-5
+    returns-5
+    constant-of-requires
+    cast-sum
+    sum-requires
+    returns-6)
