@@ -1,5 +1,6 @@
--- Demand 3 read for two runs from the same fresh start, neither refused: what a caller may compare who holds both answers. If the
--- premise holds up to the pipeline's last clock, all that demand 3 speaks of; if up to instruction k + 1, the first k + 1 lines of the logs.
+-- Demand 3 read for two runs from the same fresh start, neither refused: what a caller may compare who holds both answers. If the premise
+-- reaches to the pipeline's last clock, or to the plain engine's stop, all that demand 3 speaks of; if to instruction k + 1, the first k + 1
+-- lines of the logs.
 use Prim.Native.Nat.{ℕ, zero, suc, _+_, _-_, _≤_, _<_}
 use mathlib.Core.Bool.{Bool, true, false, cond, _||_, true≢false}
 use mathlib.Core.List.{List, [], _∷_, _++_}
@@ -18,13 +19,13 @@ use Rattle.machine.specs.Prediction.{Settings}
 use Rattle.machine.specs.Charges.{kindsOf, due, dueCycles}
 use Rattle.machine.specs.Pipeline.{pipedOf, clocks}
 use Rattle.machine.specs.Premise.{Untouched}
-use Rattle.machine.specs.Runs.{laid, sizeRefused, budgetRefused, logRefused, recordRefused, plainLimit, pipeLimit, plainAnswer, pipeAnswer, lowest, plainRefusal, PlainAnswer, plainDone, plainBy, plainRun, pipeRefusal, PipeAnswer, pipeDone, pipeBy, pipeRun}
+use Rattle.machine.specs.Runs.{laid, sizeRefused, budgetRefused, logRefused, recordRefused, plainLimit, pipeLimit, plainAnswer, pipeAnswer, lowest, plainRefusal, PlainAnswer, plainDone, plainBy, plainRun, pipeRefusal, PipeAnswer, pipeDone, pipeBy, pipeRun, pipeRunUnlogged}
 use Rattle.account.specs.Statement.{Start, plainFrom, pipedFrom, DueBy, keptOf, Agrees}
 use Rattle.account.specs.Laws.{step-logs}
 use Rattle.laws.specs.Tests.{neither}
 use Rattle.published.specs.Columns.{stays as step-still}
 use Rattle.account.specs.Timing.{up-to, due-most}
-use Rattle.account.specs.Uses.{due-only, due-stopped}
+use Rattle.account.specs.Uses.{due-only, due-stopped, untouched-on, always}
 use Rattle.account.specs.Prefix.{Begins, begins-all, logs-begin}
 use Rattle.account.specs.Theorem.{demand3}
 
@@ -140,6 +141,13 @@ pipe-ran g k m budget a y h =
     let e = neither (ltb (length a) budget) b f in
     (r .0, ltb-false (length a) budget (e .0), ltb-false (length y) budget (neither (ltb (length y) budget) false (e .1) .0))
 
+pub unlogged-ran : (g : Settings) (k : Pipeline) (m : Memory) (budget : ℕ) → pipeRunUnlogged g k m budget .number ≡ 0
+    → pipeRunUnlogged g k m budget ≡ pipeDone (clocks g (pipedOf k m) budget) [] []
+unfolding pipeRunUnlogged pipeBy
+unlogged-ran g k m budget h =
+    let n = pipeRefusal k (length m) budget [] in
+    ran (λ (x : PipeAnswer). x .number) n (pipeDone (clocks g (pipedOf k m) budget) [] []) (pipeAnswer n k m [] []) refl h .0
+
 -- "the limit is 262,145, which covers any 65,536 instructions"
 pub limit-covers : (g : Settings) (s : Plain) → due g s plainLimit ≤ pipeLimit
 limit-covers g s = due-most g s 65535
@@ -151,15 +159,22 @@ plainAnswered t budget log = plainRun (plainFrom t .machine) (t .memory) budget 
 abbrev pub pipeAnswered : Settings → Start → ℕ → List ℕ → List ℕ → PipeAnswer
 pipeAnswered g t clocked addresses cycles = pipeRun g (pipedFrom t .pipeline) (t .memory) clocked addresses cycles
 
--- WHAT MAY BE COMPARED
-pub record RunsAgree (g : Settings) (t : Start) (budget clocked : ℕ) (x : PlainAnswer) (y : PipeAnswer) : Type 0 where
+-- that of a run without logs
+abbrev pub pipeUnlogged : Settings → Start → ℕ → PipeAnswer
+pipeUnlogged g t clocked = pipeRunUnlogged g (pipedFrom t .pipeline) (t .memory) clocked
+
+-- HOW FAR THE PREMISE REACHES: to instruction k + 1, and no clock is past its due cycle; or, of a plain run that stopped, over the
+-- instructions that it performed, and then the pipeline may run on as long as it likes
+pub data Covered (g : Settings) (t : Start) (clocked : ℕ) (x : PlainAnswer) : Type 0 where
+  to-the-clock : (k : ℕ) → Untouched (plainFrom t) (suc k) → clocked ≤ due g (plainFrom t) (suc k) → Covered g t clocked x
+  to-the-stop : isBad (x .machine .status) ≡ true → Untouched (plainFrom t) (x .machine .count) → Covered g t clocked x
+
+-- WHAT MAY BE COMPARED, of any two runs
+pub record EndsAgree (g : Settings) (t : Start) (budget clocked : ℕ) (x : PlainAnswer) (y : PipeAnswer) : Type 0 where
   -- the plain answer is the plain engine after as many instructions as it counts
   pub plain : (x .machine ≡ steps (plainFrom t) (x .machine .count) .machine) × (x .memory ≡ steps (plainFrom t) (x .machine .count) .memory)
   -- exactly the instructions that are due by the pipeline's last clock have retired
   pub exactly : DueBy g (plainFrom t) clocked (y .pipeline .retired)
-  -- line by line, as far as both logs reach: the addresses, and the cycles beside the account
-  pub addresses : (i : ℕ) → i < x .machine .count → i < y .pipeline .retired → getD (x .log) i 0 ≡ getD (y .addresses) i 0
-  pub cycles : (i : ℕ) → i < y .pipeline .retired → getD (y .cycles) i 0 ≡ due g (plainFrom t) (suc i)
   pub kinds : y .pipeline .kinds ≡ kindsOf g (plainFrom t) (y .pipeline .retired)
   -- registers, status and last address are the plain engine's after as many instructions
   pub registers : y .pipeline .registers ≡ steps (plainFrom t) (y .pipeline .retired) .machine .registers
@@ -174,14 +189,21 @@ pub record RunsAgree (g : Settings) (t : Start) (budget clocked : ℕ) (x : Plai
   pub plain-stopped : isBad (x .machine .status) ≡ true → due g (plainFrom t) (x .machine .count) ≤ clocked → x .machine .count ≡ y .pipeline .retired
   pub pipe-stopped : isBad (y .pipeline .status) ≡ true → y .pipeline .retired ≤ budget → x .machine .count ≡ y .pipeline .retired
 
--- and there the two answers agree
+-- and of two runs with logs
+pub record RunsAgree (g : Settings) (t : Start) (budget clocked : ℕ) (x : PlainAnswer) (y : PipeAnswer) : Type 0 where
+  pub ends : EndsAgree g t budget clocked x y
+  -- line by line, as far as both logs reach: the addresses, and the cycles beside the account
+  pub addresses : (i : ℕ) → i < x .machine .count → i < y .pipeline .retired → getD (x .log) i 0 ≡ getD (y .addresses) i 0
+  pub cycles : (i : ℕ) → i < y .pipeline .retired → getD (y .cycles) i 0 ≡ due g (plainFrom t) (suc i)
+
+-- where as many have retired as were performed the two answers agree
 pub record Level (x : PlainAnswer) (y : PipeAnswer) : Type 0 where
   pub registers : y .pipeline .registers ≡ x .machine .registers
   pub status : y .pipeline .status ≡ x .machine .status
   pub last : y .pipeline .last ≡ x .machine .last
   pub stopped : isBad (y .pipeline .status) ≡ true → (y .memory ≡ x .memory) × (y .pipeline .codes ≡ x .machine .codes)
 
-pub level : (g : Settings) (t : Start) (budget clocked : ℕ) (x : PlainAnswer) (y : PipeAnswer) → RunsAgree g t budget clocked x y
+pub level : (g : Settings) (t : Start) (budget clocked : ℕ) (x : PlainAnswer) (y : PipeAnswer) → EndsAgree g t budget clocked x y
     → x .machine .count ≡ y .pipeline .retired → Level x y
 level g t budget clocked x y r e =
     let m = r .plain .0 in
@@ -234,18 +256,13 @@ module _ (g : Settings) (t : Start) (budget clocked : ℕ) (log addresses cycles
           go (no _) (yes z) = absurd (true≢false (sym h ∙ x .each n z))
           go (no z) (no w) = omega arith
 
-      done-agree : budget ≤ length log → clocked ≤ length addresses → clocked ≤ length cycles
-          → RunsAgree g t budget clocked (plainDone (steps (plainFrom t) budget) log) (pipeDone (clocks g (pipedFrom t) clocked) addresses cycles)
+      ends-agree : (a b : List ℕ) → EndsAgree g t budget clocked (plainDone (steps (plainFrom t) budget) log) (pipeDone (clocks g (pipedFrom t) clocked) a b)
       unfolding plainDone pipeDone isStopped
-      done-agree a b c =
+      ends-agree a b =
           let e = y .retired in
           record {
             plain = (ap (λ (s : Plain). s .machine) there, ap (λ (s : Plain). s .memory) there);
             exactly = rw e (y .exactly);
-            addresses = λ i h k.
-                plain-line a i (omega (arith, counts))
-                ∙ sym (line (begins-all (y .addresses)) (log-at g t n (y .exactly .performed)) addresses i (omega arith) (omega (arith, within)));
-            cycles = λ i h. line (begins-all (y .cycles)) (due-at g t n) cycles i (omega arith) (omega (arith, within));
             kinds = rw e (y .kinds);
             registers = rw e (y .registers);
             status = rw e (y .status);
@@ -253,35 +270,74 @@ module _ (g : Settings) (t : Start) (budget clocked : ℕ) (log addresses cycles
             running = λ h. rw e (y .kept h, y .running h);
             stopped = λ h. rw e (y .stopped h);
             plain-stopped = λ h z.
-                counts
-                ∙ (due-only g (plainFrom t) clocked q n
-                (due-stopped g (plainFrom t) clocked q (x .each) (sym (ap isStopped (x .settled)) ∙ h) (subst (λ (m : ℕ). due g (plainFrom t) m ≤ clocked) counts z)) (y .exactly)
-                ∙ sym e);
+                let by : due g (plainFrom t) q ≤ clocked = subst (λ (m : ℕ). due g (plainFrom t) m ≤ clocked) counts z in
+                let all = due-stopped g (plainFrom t) clocked q (x .each) (sym (ap isStopped (x .settled)) ∙ h) by in
+                counts ∙ (due-only g (plainFrom t) clocked q n all (y .exactly) ∙ sym e);
             pipe-stopped = λ h z. counts ∙ (meet (stopped-at-n h) (omega arith) ∙ sym e);
           }
 
-  module _ (l : length (t .registers) ≡ 15) (k : ℕ) (u : Untouched (plainFrom t) (suc k)) (x : plainAnswered t budget log .number ≡ 0) (y : pipeAnswered g t clocked addresses cycles .number ≡ 0) where
-    -- the premise up to instruction k + 1, and no clock past its due cycle
-    pub two-runs : clocked ≤ due g (plainFrom t) (suc k) → RunsAgree g t budget clocked (plainAnswered t budget log) (pipeAnswered g t clocked addresses cycles)
-    unfolding plainFrom pipedFrom plainStart
-    two-runs q =
-        let a = plain-ran (plainFrom t .machine) (t .memory) budget log x in
+      runs-agree : budget ≤ length log → clocked ≤ length addresses → clocked ≤ length cycles
+          → RunsAgree g t budget clocked (plainDone (steps (plainFrom t) budget) log) (pipeDone (clocks g (pipedFrom t) clocked) addresses cycles)
+      unfolding plainDone pipeDone
+      runs-agree a b c =
+          let e = y .retired in
+          record {
+            ends = ends-agree addresses cycles;
+            addresses = λ i h k.
+                plain-line a i (omega (arith, counts))
+                ∙ sym (line (begins-all (y .addresses)) (log-at g t n (y .exactly .performed)) addresses i (omega arith) (omega (arith, within)));
+            cycles = λ i h. line (begins-all (y .cycles)) (due-at g t n) cycles i (omega arith) (omega (arith, within));
+          }
+
+  module _ (l : length (t .registers) ≡ 15) (x : plainAnswered t budget log .number ≡ 0) where
+    -- the plain run's history, and what demand 3 says of the pipeline's
+    performed : (q : ℕ) × Performed (plainFrom t) budget q
+    unfolding plainFrom plainStart
+    performed = history (plainFrom t) refl budget
+
+    plain-is : (plainAnswered t budget log ≡ plainDone (steps (plainFrom t) budget) log) × (budget ≤ length log)
+    unfolding plainFrom
+    plain-is = plain-ran (plainFrom t .machine) (t .memory) budget log x
+
+    agreed : Covered g t clocked (plainAnswered t budget log) → (n : ℕ) × Agrees g (plainFrom t) (clocks g (pipedFrom t) clocked) clocked n
+    unfolding plainDone isStopped
+    agreed (to-the-clock k u q) = demand3 g t l k u clocked q
+    agreed (to-the-stop h u) =
+        let e = ap (λ (z : PlainAnswer). z .machine) (plain-is .0) in
+        let q = performed .1 in
+        let same = ap (λ m. m .count) e ∙ counts (performed .0) q in
+        let stopped = sym (ap isStopped (q .settled)) ∙ (sym (ap (λ m. isBad (m .status)) e) ∙ h) in
+        always g t l (untouched-on (plainFrom t) (performed .0) stopped (subst (Untouched (plainFrom t)) same u)) clocked
+
+    -- TWO RUNS, neither refused, as far as the premise reaches
+    pub two-runs : pipeAnswered g t clocked addresses cycles .number ≡ 0 → Covered g t clocked (plainAnswered t budget log)
+        → RunsAgree g t budget clocked (plainAnswered t budget log) (pipeAnswered g t clocked addresses cycles)
+    unfolding pipedFrom
+    two-runs y c =
         let b = pipe-ran g (pipedFrom t .pipeline) (t .memory) clocked addresses cycles y in
-        let r = history (plainFrom t) refl budget in
-        let d = demand3 g t l k u clocked q in
-        rw (a .0, b .0) (done-agree (r .0) (r .1) (d .0) (d .1) (a .1) (b .1) (b .2))
+        let d = agreed c in
+        rw (plain-is .0, b .0) (runs-agree (performed .0) (performed .1) (d .0) (d .1) (plain-is .1) (b .1) (b .2))
+
+    -- and where the pipeline's run is one without logs
+    pub unlogged-too : pipeUnlogged g t clocked .number ≡ 0 → Covered g t clocked (plainAnswered t budget log)
+        → EndsAgree g t budget clocked (plainAnswered t budget log) (pipeUnlogged g t clocked)
+    unfolding pipedFrom
+    unlogged-too y c =
+        let d = agreed c in
+        rw (plain-is .0, unlogged-ran g (pipedFrom t .pipeline) (t .memory) clocked y) (ends-agree (performed .0) (performed .1) (d .0) (d .1) [] [])
 
     -- the premise up to instruction k + 1 alone: its line and those before it, where the plain engine performed it and it is due
-    pub first-lines : k < plainAnswered t budget log .machine .count → due g (plainFrom t) (suc k) ≤ clocked → (i : ℕ) → i < suc k
+    pub first-lines : pipeAnswered g t clocked addresses cycles .number ≡ 0 → (k : ℕ) → Untouched (plainFrom t) (suc k)
+        → k < plainAnswered t budget log .machine .count → due g (plainFrom t) (suc k) ≤ clocked → (i : ℕ) → i < suc k
         → (getD (plainAnswered t budget log .log) i 0 ≡ getD (pipeAnswered g t clocked addresses cycles .addresses) i 0)
         × (getD (pipeAnswered g t clocked addresses cycles .cycles) i 0 ≡ due g (plainFrom t) (suc i))
-    unfolding plainFrom pipedFrom plainStart plainDone pipeDone due
-    first-lines h d i b =
-        let a = plain-ran (plainFrom t .machine) (t .memory) budget log x in
+    unfolding pipedFrom plainDone pipeDone due
+    first-lines y k u h d i b =
         let p = pipe-ran g (pipedFrom t .pipeline) (t .memory) clocked addresses cycles y in
-        let r = history (plainFrom t) refl budget in
-        let k′ : k < r .0 = omega (arith, ap (λ (z : PlainAnswer). z .machine .count) (a .0), counts (r .0) (r .1)) in
+        let r = performed in
+        let k′ : k < r .0 = omega (arith, ap (λ (z : PlainAnswer). z .machine .count) (plain-is .0), counts (r .0) (r .1)) in
         let f = logs-begin g t l k u (r .1 .each k k′) clocked d in
         let each : (j : ℕ) → j < suc k → isStopped (steps (plainFrom t) j) ≡ false = λ j z. r .1 .each j (omega arith) in
-        rw (a .0, p .0)
-        (plain-line (r .0) (r .1) (a .1) i (omega arith) ∙ sym (line (f .0) (log-at g t (suc k) each) addresses i b (omega arith)), line (f .1) (due-at g t (suc k)) cycles i b (omega arith))
+        let one = plain-line (r .0) (r .1) (plain-is .1) i (omega arith) in
+        let other = line (f .0) (log-at g t (suc k) each) addresses i b (omega arith) in
+        rw (plain-is .0, p .0) (one ∙ sym other, line (f .1) (due-at g t (suc k)) cycles i b (omega arith))

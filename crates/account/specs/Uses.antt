@@ -1,6 +1,6 @@
 -- Demand 3 as it is used.
 use Prim.Native.Nat.{ℕ, suc, _+_, _-_, _≤_, _<_}
-use mathlib.Core.Bool.{Bool, true, false}
+use mathlib.Core.Bool.{Bool, true, false, true≢false}
 use mathlib.Core.Path.{_≡_, refl, ap, sym, _∙_, subst}
 use native.Mathlib.Omega.{arith}
 use native.Mathlib.Decide.{decLt}
@@ -83,6 +83,14 @@ same-answer g s p q c m n a b = go (subst (λ (x : ℕ). Agrees g s p c x) (due-
         times : (x : Bool) → isBad (p .pipeline .status) ≡ x → p .pipeline .cycles ≡ q .pipeline .cycles
         times true h = a .stopped h .2 ∙ sym (b .stopped (sym (ap isBad same) ∙ h) .2)
         times false h = a .running h ∙ sym (b .running (sym (ap isBad same) ∙ h))
+
+-- from a stop on no instruction is performed: the premise over the n instructions up to it is the premise throughout
+pub untouched-on : (s : Plain) (n : ℕ) → isStopped (steps s n) ≡ true → Untouched s n → (K : ℕ) → Untouched s K
+untouched-on s n h u K j i a b c r x w y = go (decLt i n)
+  where
+    go : Dec (i < n) → ⊥
+    go (yes q) = u j i a b q r x w y
+    go (no q) = true≢false (sym h ∙ runs-before s (i - n) n i (omega arith) r)
 
 -- from a stop on a clock changes nothing
 module _ (g : Settings) (t : Start) (l : length (t .registers) ≡ 15) where

@@ -8,7 +8,9 @@ use Rattle.machine.specs.Prediction.{asIn01}
 use Rattle.machine.specs.Plain.{plainStart}
 use Rattle.machine.specs.Pipeline.{pipeStart}
 use Rattle.machine.specs.Runs.{fetchAnswer, PlainAnswer, PipeAnswer, plainStep, plainRun, pipeClock, pipeRun, pipeRunUnlogged}
+use Rattle.account.specs.Statement.{Start}
 use Rattle.edge.specs.Edge.{Edge, replayed}
+use Rattle.together.specs.Both.{BothAnswer, bothRuns}
 use Rattle.cases.specs.Names.{Codes, FetchAnswer, Machine, Pipeline}
 
 -- an open operation: what a caller gives and lends; what it has afterwards, the number, the record and all lent bytes and words; and the
@@ -65,3 +67,8 @@ pipe-run-unlogged = promising (Pipeline × Memory × ℕ) PipeAnswer (λ x. pipe
 abbrev pub host-edge : Operation
 host-edge =
     promising (Memory × List ℕ × List ℕ × ℕ × ℕ × ℕ) Edge (λ x. replayed (x .0) (x .1) (x .2) (x .3) (x .4) (x .5))
+
+-- together::run_both: the start, the copy of memory for the pipeline, both budgets, the plain engine's log and the pipeline's two
+abbrev pub run-both : Operation
+run-both =
+    promising (Start × Memory × ℕ × ℕ × List ℕ × List ℕ × List ℕ) BothAnswer (λ x. bothRuns (x .0) (x .1) (x .2) (x .3) (x .4) (x .5) (x .6))

@@ -1,0 +1,120 @@
+// The code meets the promises that the crate cases speaks of: each open operation, called, fits its own. A contract of theirs that said less
+// would fail here.
+use machine::Codes;
+use machine::FetchAnswer;
+use machine::Machine;
+use machine::Pipeline;
+ghost use mathlib.Core.List.{[]};
+ghost use Rattle.machine.specs.Runs.{plainAnswer, pipeAnswer};
+ghost use Rattle.edge.specs.Edge.{edge};
+ghost use Rattle.together.specs.Both.{startOf, bothAnswer};
+ghost use Rattle.cases.specs.Promises.{Fits, fetching, plain-start, plain-step, plain-run};
+ghost use Rattle.cases.specs.Promises.{pipe-start, pipe-clock, pipe-run, pipe-run-unlogged, host-edge, run-both};
+
+fn fetch(memory: &[u8], address: u64) -> FetchAnswer
+    ensures { λ r. ⌜ Fits fetching (now (memory .entry), address) r ⌝ }
+{
+    fetching::fetch(memory, address)
+}
+
+fn plain_start(registers: [u64; 15], codes: Codes, address: u64) -> Machine
+    ensures { λ r. ⌜ Fits plain-start (registers, codes, address) r ⌝ }
+{
+    plain::start(registers, codes, address)
+}
+
+fn plain_step(machine: Machine, memory: &mut [u8]) -> plain::Answer
+    ensures { λ r. ⌜ Fits plain-step (machine, now (memory .entry)) (plainAnswer (r .number) (r .machine) (now (memory .exit)) []) ⌝ }
+{
+    plain::step(machine, memory)
+}
+
+fn plain_run(machine: Machine, memory: &mut [u8], budget: u64, log: &mut [u64]) -> plain::Answer
+    ensures { λ r. ⌜ Fits plain-run (machine, now (memory .entry), budget, now (log .entry))
+        (plainAnswer (r .number) (r .machine) (now (memory .exit)) (now (log .exit))) ⌝ }
+{
+    plain::run(machine, memory, budget, log)
+}
+
+fn pipe_start(registers: [u64; 15], codes: Codes, address: u64) -> Pipeline
+    ensures { λ r. ⌜ Fits pipe-start (registers, codes, address) r ⌝ }
+{
+    pipe::start(registers, codes, address)
+}
+
+fn pipe_clock(pipeline: Pipeline, memory: &mut [u8]) -> pipe::Answer
+    ensures { λ r. ⌜ Fits pipe-clock (pipeline, now (memory .entry)) (pipeAnswer (r .number) (r .pipeline) (now (memory .exit)) [] []) ⌝ }
+{
+    pipe::clock(pipeline, memory)
+}
+
+fn pipe_run(
+    pipeline: Pipeline,
+    memory: &mut [u8],
+    budget: u64,
+    addresses: &mut [u64],
+    cycles: &mut [u64],
+) -> pipe::Answer
+    ensures { λ r. ⌜ Fits pipe-run (pipeline, now (memory .entry), budget, now (addresses .entry), now (cycles .entry))
+        (pipeAnswer (r .number) (r .pipeline) (now (memory .exit)) (now (addresses .exit)) (now (cycles .exit))) ⌝ }
+{
+    pipe::run(pipeline, memory, budget, addresses, cycles)
+}
+
+fn pipe_run_unlogged(pipeline: Pipeline, memory: &mut [u8], budget: u64) -> pipe::Answer
+    ensures { λ r. ⌜ Fits pipe-run-unlogged (pipeline, now (memory .entry), budget) (pipeAnswer (r .number) (r .pipeline) (now (memory .exit)) [] []) ⌝ }
+{
+    pipe::run_unlogged(pipeline, memory, budget)
+}
+
+fn host_edge(
+    memory: &mut [u8],
+    registers: &mut [u8],
+    result: &mut [u8],
+    start: u64,
+    codes: u64,
+    budget: u64,
+) -> u64
+    ensures { λ r. ⌜ Fits host-edge (now (memory .entry), now (registers .entry), now (result .entry), start, codes, budget)
+        (edge r (now (memory .exit)) (now (registers .exit)) (now (result .exit))) ⌝ }
+{
+    edge::y86_replay(memory, registers, result, start, codes, budget)
+}
+
+fn both(
+    registers: [u64; 15],
+    codes: Codes,
+    address: u64,
+    memory: &mut [u8],
+    copy: &mut [u8],
+    budget: u64,
+    clocked: u64,
+    log: &mut [u64],
+    addresses: &mut [u64],
+    cycles: &mut [u64],
+) -> together::Both
+    ensures { λ r. ⌜ Fits run-both (
+      startOf registers codes address (now (memory .entry)),
+      now (copy .entry),
+      budget,
+      clocked,
+      now (log .entry),
+      now (addresses .entry),
+      now (cycles .entry),
+    )
+        (bothAnswer (plainAnswer (r .plain .number) (r .plain .machine) (now (memory .exit)) (now (log .exit)))
+        (pipeAnswer (r .pipe .number) (r .pipe .pipeline) (now (copy .exit)) (now (addresses .exit)) (now (cycles .exit)))) ⌝ }
+{
+    together::run_both(
+        registers,
+        codes,
+        address,
+        memory,
+        copy,
+        budget,
+        clocked,
+        log,
+        addresses,
+        cycles,
+    )
+}
