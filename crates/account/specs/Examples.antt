@@ -1,5 +1,5 @@
 -- Demand 3 is not vacuous, its premise is tight, and memory and codes run ahead in mid-run: computed.
-use Prim.Native.Nat.{ℕ, suc, _≤_}
+use Prim.Native.Nat.{ℕ, suc, _≤_, _<_}
 use mathlib.Core.Bool.{Bool, true, false, true≢false}
 use mathlib.Core.List.{_∷_, _++_}
 use mathlib.Core.Path.{_≡_, refl, ap, sym, _∙_}
@@ -16,8 +16,8 @@ use Rattle.machine.specs.Plain
 use Rattle.machine.specs.Prediction
 use Rattle.machine.specs.Charges
 use Rattle.machine.specs.Pipeline
-use Rattle.machine.specs.Memory.{Memory}
-use Rattle.machine.specs.Plain.{Plain, steps}
+use Rattle.machine.specs.Memory.{Memory, Registers}
+use Rattle.machine.specs.Plain.{Plain, isStopped, steps}
 use Rattle.machine.specs.Prediction.{Settings, asIn01}
 use Rattle.machine.specs.Charges.{due}
 use Rattle.machine.specs.Pipeline.{Piped, clocks}
@@ -114,48 +114,71 @@ pub two-differ : (figures 2 patching 4 8 ≡ patched true aok 12 4 8) × (figure
 unfolding figures patching patched
 two-differ = (refl, refl)
 
--- demand 3 with w instructions in place of three; with three it is demand 3 itself
-abbrev pub Demand3Within : ℕ → Type 0
-Demand3Within w =
+-- demand 3 with w instructions in place of three, reaching as far as instruction reach k is due, and with R said after every clock
+abbrev pub Demand3Of : ℕ → (ℕ → ℕ) → (Settings → Plain → Piped → (c n : ℕ) → Type 0) → Type 0
+Demand3Of w reach R =
     (g : Settings) (t : Start) → length (t .registers) ≡ 15 → (k : ℕ) → UntouchedWithin w (plainFrom t) (suc k)
-    → (c : ℕ) → c ≤ due g (plainFrom t) (suc k) → (n : ℕ) × Agrees g (plainFrom t) (clocks g (pipedFrom t) c) c n
+    → (c : ℕ) → c ≤ due g (plainFrom t) (reach k) → (n : ℕ) × R g (plainFrom t) (clocks g (pipedFrom t) c) c n
 
-pub with-three : Demand3 → Demand3Within 3
-with-three d = d
+-- demand 3 itself
+pub as-stated : (Demand3 → Demand3Of 3 suc Agrees) × (Demand3Of 3 suc Agrees → Demand3)
+as-stated = (λ d. d, λ d. d)
+
+-- the pipeline after 8 clocks has retired 4 and runs, where the plain engine has stopped
+goes-on : (n : ℕ) × Agrees asIn01 (plainFrom (from patching)) (clocks asIn01 (pipedFrom (from patching)) 8) 8 n → ⊥
+unfolding figures patching
+goes-on x =
+    let four : 4 ≡ x .0 = x .1 .retired in
+    let clash : statusNumber aok ≡ statusNumber hlt = ap statusNumber (x .1 .status ∙ ap (λ (n : ℕ). steps (plainFrom (from patching)) n .machine .status) (sym four)) in
+    omega (arith, clash)
 
 -- with two it is false
-pub two-are-too-few : Demand3Within 2 → ⊥
+pub two-are-too-few : Demand3Of 2 suc Agrees → ⊥
 unfolding figures patching
-two-are-too-few d = go (d asIn01 (from patching) refl 3 (untouched-sound 2 (plainFrom (from patching)) 4 refl) 8 (omega arith))
-  where
-    go : (n : ℕ) × Agrees asIn01 (plainFrom (from patching)) (clocks asIn01 (pipedFrom (from patching)) 8) 8 n → ⊥
-    go x =
-        let four : 4 ≡ x .0 = x .1 .retired in
-        let clash : statusNumber aok ≡ statusNumber hlt = ap statusNumber (x .1 .status ∙ ap (λ (n : ℕ). steps (plainFrom (from patching)) n .machine .status) (sym four)) in
-        omega (arith, clash)
+two-are-too-few d = goes-on (d asIn01 (from patching) refl 3 (untouched-sound 2 (plainFrom (from patching)) 4 refl) 8 (omega arith))
+
+-- THE EDITS OF THE STATEMENT (must-fail/), each false and not only unproved
+-- one_instruction_too_far: the store meets the premise as far as instruction 3, and instruction 4 is the one written into
+pub one-too-far : Demand3Of 3 (λ k. suc (suc k)) Agrees → ⊥
+unfolding figures patching
+one-too-far d = goes-on (d asIn01 (from patching) refl 2 (untouched-sound 3 (plainFrom (from patching)) 3 refl) 8 (omega arith))
+
+-- registers_ahead, by the fields that it has: at the start, before irmovq $64, %rsp
+pub registers-ahead : Demand3Of 3 suc (λ g s p c n. (p .pipeline .retired ≡ n) × (p .pipeline .registers ≡ steps s (suc n) .machine .registers)) → ⊥
+unfolding figures program
+registers-ahead d =
+    let s = plainFrom (from (program 0)) in
+    let x = d asIn01 (from (program 0)) refl 6 (untouched-sound 3 s 7 refl) 0 (omega arith) in
+    let none : 0 ≡ x .0 = x .1 .0 in
+    let clash : _≡_ {A = ℕ} 0 64 = ap (λ (r : Registers). getD r 4 0) (x .1 .1 ∙ ap (λ (n : ℕ). steps s (suc n) .machine .registers) (sym none)) in
+    omega arith
+
+-- retired_a_cycle_early: after 4 clocks none has retired, and the first is due in cycle 5
+pub a-cycle-early : Demand3Of 3 suc (λ g s p c n. (p .pipeline .retired ≡ n) × (isStopped (steps s n) ≡ false → suc c < due g s (suc n))) → ⊥
+unfolding figures program
+a-cycle-early d =
+    let s = plainFrom (from (program 0)) in
+    let x = d asIn01 (from (program 0)) refl 6 (untouched-sound 3 s 7 refl) 4 (omega arith) in
+    let none : 0 ≡ x .0 = x .1 .0 in
+    let late : suc 4 < due asIn01 s (suc 0) = rw (sym none) at (x .1 .1) refl in
+    omega arith
 
 -- MEMORY AND CODES IN MID-RUN
--- demand 3 with more said of the pipeline and of the plain engine after as many instructions
-abbrev pub Demand3And : (Piped → Plain → Type 0) → Type 0
-Demand3And P =
-    (g : Settings) (t : Start) → length (t .registers) ≡ 15 → (k : ℕ) → Untouched (plainFrom t) (suc k) → (c : ℕ) → c ≤ due g (plainFrom t) (suc k)
-    → (n : ℕ) × Agrees g (plainFrom t) (clocks g (pipedFrom t) c) c n × P (clocks g (pipedFrom t) c) (steps (plainFrom t) n)
-
 -- after 5 clocks the call has stored 19 at 56, and has not retired
-pub memory-runs-ahead : Demand3And (λ p s. p .memory ≡ s .memory) → ⊥
+pub memory-runs-ahead : Demand3Of 3 suc (λ g s p c n. Agrees g s p c n × (p .memory ≡ steps s n .memory)) → ⊥
 unfolding figures program
 memory-runs-ahead d =
     let s = plainFrom (from (program 0)) in
     let x = d asIn01 (from (program 0)) refl 6 (untouched-sound 3 s 7 refl) 5 (omega arith) in
-    let one : 1 ≡ x .0 = x .1 .retired in
-    let clash : _≡_ {A = ℕ} 19 0 = ap (λ (m : Memory). getD m 56 0) (x .2 ∙ ap (λ (n : ℕ). steps s n .memory) (sym one)) in
+    let one : 1 ≡ x .0 = x .1 .0 .retired in
+    let clash : _≡_ {A = ℕ} 19 0 = ap (λ (m : Memory). getD m 56 0) (x .1 .1 ∙ ap (λ (n : ℕ). steps s n .memory) (sym one)) in
     omega arith
 
 -- after 7 the addq has cleared ZF, and has not retired
-pub codes-run-ahead : Demand3And (λ p s. p .pipeline .codes ≡ s .machine .codes) → ⊥
+pub codes-run-ahead : Demand3Of 3 suc (λ g s p c n. Agrees g s p c n × (p .pipeline .codes ≡ steps s n .machine .codes)) → ⊥
 unfolding figures program
 codes-run-ahead d =
     let s = plainFrom (from (program 0)) in
     let x = d asIn01 (from (program 0)) refl 6 (untouched-sound 3 s 7 refl) 7 (omega arith) in
-    let three : 3 ≡ x .0 = x .1 .retired in
-    true≢false (sym (ap (λ (c : Codes). c .zf) (x .2 ∙ ap (λ (n : ℕ). steps s n .machine .codes) (sym three))))
+    let three : 3 ≡ x .0 = x .1 .0 .retired in
+    true≢false (sym (ap (λ (c : Codes). c .zf) (x .1 .1 ∙ ap (λ (n : ℕ). steps s n .machine .codes) (sym three))))

@@ -2,9 +2,9 @@
 use Prim.Native.Nat.{ℕ, suc}
 use mathlib.Core.List.{List, [], _∷_}
 use mathlib.Core.Path.{_≡_, refl}
-use lib.ListN.{getD, replicate}
+use lib.ListN.{getD, drop, replicate}
 use Rattle.machine.specs.Memory.{Memory}
-use Rattle.edge.specs.Edge.{edge, wordsIn, withWords, codesFrom, edgeRefusal, resultWords, edgeDone, edgeRun, replayed}
+use Rattle.edge.specs.Edge.{Edge, edge, wordsIn, withWords, codesFrom, edgeRefusal, resultWords, edgeDone, edgeRun, replayed}
 use Rattle.cases.specs.Promises.{host-edge}
 use Rattle.cases.specs.Wrong.{FallsFoul, PipeFoul, refused, differs}
 
@@ -15,6 +15,14 @@ halting = (0 ∷ [], replicate 120 0, replicate 40 0, 0, 4, 5)
 pub edge-refuses : (n : ℕ) → FallsFoul host-edge (λ x. edge (suc n) (x .0) (x .1) (x .2)) halting
 unfolding PipeFoul wordsIn withWords codesFrom edgeRefusal resultWords edgeDone edgeRun replayed
 edge-refuses n = differs (λ r. refused (r .answer)) 1 0 refl
+
+-- one that always answers HLT, whatever else another one, f, answers: at `c0` its status word is 2, where it ought to be INS, 4
+abbrev withHlt : Edge → List ℕ → Edge
+withHlt o result = edge (o .answer) (o .memory) (o .registers) (withWords (2 ∷ drop 1 (wordsIn 5 (o .result) 0)) result 0)
+
+pub edge-halts : (f : host-edge .Given → Edge) → FallsFoul host-edge (λ x. withHlt (f x) (x .2)) (0xc0 ∷ [], replicate 120 0, replicate 40 0, 0, 4, 5)
+unfolding PipeFoul wordsIn withWords codesFrom edgeRefusal resultWords edgeDone edgeRun replayed
+edge-halts f = differs (λ r. getD (r .result) 0 0) 2 4 refl
 
 -- one that leaves all as it was: the status word stays 0, where it ought to be HLT, 2
 pub edge-idles : FallsFoul host-edge (λ x. edge 0 (x .0) (x .1) (x .2)) halting

@@ -318,7 +318,7 @@ no-plain-rule rule p =
     let b : rule 5 ≡ 2 = ap plainCount (p (plainAt nop, nop .memory, 5, log)) in
     omega arith
 
--- DEMAND 3 sees some of them
+-- DEMAND 3 rules out all five
 -- the state after c clocks by a replay: the record, memory, and the places of the logs that were taken
 abbrev after : PipeReplay → Start → ℕ → Piped
 after f t c =
@@ -348,6 +348,19 @@ pipe-refuses-disagrees n i a = differs itself 0 5 refl (agreed _ _ _ _ a)
 pub pipe-idles-disagrees : Disagrees pipeIdles halt 5
 unfolding PipeFoul
 pipe-idles-disagrees i a = differs itself 0 5 refl (agreed _ _ _ _ a)
+
+-- after any number of clocks: of `c0` the plain engine performs one instruction, and stops with INS
+pub pipe-halts-disagrees : (f : PipeReplay) (c : ℕ) → Disagrees (pipeHalts f) unknown c
+unfolding PipeFoul plainFrom
+pipe-halts-disagrees f c zero a = differs statusNumber 2 1 refl (a .status)
+pipe-halts-disagrees f c (suc zero) a = differs statusNumber 2 4 refl (a .status)
+pipe-halts-disagrees f c (suc (suc i)) a = true≢false (a .exactly .performed 1 (omega arith))
+
+-- by clock 3 none is due, and it has stopped with HLT
+pub pipe-whole-disagrees : (f : PipeReplay) → Disagrees (pipeWhole f) push 3
+unfolding PipeFoul plainFrom due charges
+pipe-whole-disagrees f zero a = differs statusNumber 2 1 refl (a .status)
+pipe-whole-disagrees f (suc i) a = omega (arith, a .exactly .arrived 0 (omega arith))
 
 pub pipe-makes-up-disagrees : Disagrees (pipeMakesUp (λ k. k + 4)) turn 8
 unfolding PipeFoul plainFrom due charges
