@@ -46,6 +46,7 @@ quietly() {
 proving() {
     "$@" 2>&1 | tee -a "$log" | awk -v crates="$(grep -vc '^#' crates.txt)" -v edits="$(find crates -name '*.edit' | wc -l)" '
         function led(    k) { for (k = 1; k <= said && k <= 60; k++) print line[k] }
+        /^rt: / { more = 0 }
         /^rt: [A-Za-z0-9_]+ proved \(/ {
             printf "  %2d of %d  %-10s %s\n", ++proved, crates, $2, /unchanged/ ? "unchanged" : "proved in " substr($4, 2) " s"
             said = 0; fflush(); next
@@ -54,8 +55,7 @@ proving() {
         /^rt: ok|^rt: [A-Za-z0-9_]+ ran/ { print "  " substr($0, 5); said = 0; fflush(); next }
         /^rt: / { led(); print; said = 0; more = /BAD EDIT/; fflush(); next }
         more { print; next }
-        /: proved$|^(library|logic|crate|note) |^logic=|^note:/ { next }
-        /^[0-9]+ passed, [0-9]+ failed$/ { next }
+        /: proved$|^(library|logic|crate) |^logic=|^[0-9]+ passed, [0-9]+ failed$/ { next }
         { line[++said] = $0 }
         END { led() }'
 }
