@@ -1,4 +1,5 @@
-//! Links the proved host edge, which `rt staticlib edge` builds.
+//! Links the proved host edge, which `rt staticlib edge` builds. The archive
+//! of `rt staticlib trial` lies in the same folder; only its test links it.
 
 use std::path::Path;
 
@@ -8,7 +9,8 @@ const ARCHIVE: &str = "../target/staticlib/libedge.a";
 fn main() {
     let package = std::env::var_os("CARGO_MANIFEST_DIR").expect("cargo names the package");
     let archive = Path::new(&package).join(ARCHIVE);
-    println!("cargo::rerun-if-changed={}", archive.display());
+    let folder = archive.parent().expect("an archive lies in a folder");
+    println!("cargo::rerun-if-changed={}", folder.display());
     if !archive.is_file() {
         println!(
             "cargo::error=the proved host edge is not built: \
@@ -17,7 +19,6 @@ fn main() {
         );
         return;
     }
-    let folder = archive.parent().expect("an archive lies in a folder");
     println!("cargo::rustc-link-search=native={}", folder.display());
     println!("cargo::rustc-link-lib=static=edge");
 }

@@ -2,10 +2,14 @@
 //!
 //! The same seed gives the same cases, on every machine.
 
+mod calls;
 mod programs;
 mod random;
+mod records;
 
+pub use calls::{Call, Calls, Origin, Way};
 pub use random::Random;
+pub use records::Record;
 
 use crate::second::machine::{CYCLE_LIMIT, MEMORY_LIMIT};
 use crate::second::replay::{REGISTER_BYTES, RESULT_BYTES};

@@ -208,10 +208,19 @@ fn execute(stage: &Executing, codes: Codes) -> (Accessing, Codes) {
     let mut instruction = stage.instruction;
     let (a, b, constant) = (stage.a, stage.b, stage.constant);
     let mut codes_after = codes;
+    let decided = || {
+        stage
+            .instruction
+            .decided(codes.condition(stage.instruction.function()))
+    };
     let result = match instruction.code() {
-        CMOV | JXX => {
-            instruction = instruction.decided(codes.condition(instruction.function()));
+        CMOV => {
+            instruction = decided();
             a
+        }
+        JXX => {
+            instruction = decided();
+            0
         }
         IRMOVQ => constant,
         RMMOVQ | MRMOVQ => b.wrapping_add(constant),

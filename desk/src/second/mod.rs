@@ -9,6 +9,7 @@ pub mod account;
 pub mod arithmetic;
 pub mod fetch;
 mod flow;
+pub mod letter;
 pub mod machine;
 pub mod pipeline;
 pub mod plain;

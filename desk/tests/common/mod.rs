@@ -1,5 +1,8 @@
-//! Short ways to start the two engines.
+//! What the tests share: short ways to start the second program's two
+//! engines, and counts.
 #![allow(dead_code)]
+
+pub mod tally;
 
 use desk::second::arithmetic::Codes;
 use desk::second::machine::{Registers, RSP};

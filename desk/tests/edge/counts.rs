@@ -1,16 +1,16 @@
 //! What turned up among the cases that were compared.
 
+use crate::common::tally::{Classes, Tally};
 use desk::generate::Case;
 use desk::second::machine::{CYCLE_LIMIT, MEMORY_LIMIT};
 use desk::second::pipeline::Pipeline;
 use desk::second::{Refusal, Status};
-use std::collections::BTreeMap;
 
 const NUMBERS: [&str; 8] = ["0", "1", "2", "3", "4", "5", "6", "7"];
 const BLOCKS: [&str; 4] = ["right", "empty", "short", "long"];
 
 /// Every class that has to occur, under its heading.
-const CLASSES: [(&str, &[&str]); 13] = [
+const CLASSES: &Classes = &[
     (
         "kind",
         &[
@@ -75,7 +75,7 @@ const INSTRUCTIONS: [&str; 12] = [
 /// How often each class occurred, and each size.
 pub struct Counts {
     cases: u64,
-    classes: BTreeMap<(&'static str, &'static str), u64>,
+    classes: Tally,
     sizes: Vec<u64>,
 }
 
@@ -83,7 +83,7 @@ impl Default for Counts {
     fn default() -> Counts {
         Counts {
             cases: 0,
-            classes: BTreeMap::new(),
+            classes: Tally::default(),
             sizes: vec![0; MEMORY_LIMIT + 1],
         }
     }
@@ -130,15 +130,13 @@ impl Counts {
     }
 
     fn count(&mut self, heading: &'static str, class: &'static str) {
-        *self.classes.entry((heading, class)).or_default() += 1;
+        self.classes.count(heading, class);
     }
 
     /// Takes in the counts of another part of the run.
     pub fn join(&mut self, other: Counts) {
         self.cases += other.cases;
-        for (class, count) in other.classes {
-            *self.classes.entry(class).or_default() += count;
-        }
+        self.classes.join(other.classes);
         for (sum, count) in self.sizes.iter_mut().zip(other.sizes) {
             *sum += count;
         }
@@ -146,33 +144,14 @@ impl Counts {
 
     /// The counts, a line for each heading.
     pub fn table(&self) -> String {
-        let mut text = String::new();
-        for (heading, classes) in CLASSES {
-            text += &format!("{heading}:");
-            for class in classes {
-                let count = self.classes.get(&(heading, class)).unwrap_or(&0);
-                text += &format!("  {class} {count}");
-            }
-            text += "\n";
-        }
         let sizes = self.sizes[1..].iter().filter(|count| **count > 0).count();
-        text + &format!("sizes that ran: {sizes} of {MEMORY_LIMIT}")
+        let table = self.classes.table(CLASSES);
+        format!("{table}sizes that ran: {sizes} of {MEMORY_LIMIT}")
     }
 
     /// Every class occurred, and often; so did every size from 1 to 4,096.
     pub fn check(&self) {
-        let least = 1 + self.cases / 10_000;
-        for (heading, classes) in CLASSES {
-            for class in classes {
-                let count = self.classes.get(&(heading, class)).unwrap_or(&0);
-                assert!(*count >= least, "{heading} {class}: {count} cases");
-            }
-        }
-        let known = |class: &(&str, &str)| {
-            let heading = CLASSES.iter().find(|(heading, _)| *heading == class.0);
-            heading.is_some_and(|(_, classes)| classes.contains(&class.1))
-        };
-        assert!(self.classes.keys().all(known), "a class without a heading");
+        self.classes.check(CLASSES, 1 + self.cases / 10_000);
         let missing = (1..=MEMORY_LIMIT).find(|size| self.sizes[*size] == 0);
         assert_eq!(missing, None, "a size that did not occur");
     }

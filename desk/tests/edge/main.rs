@@ -1,6 +1,8 @@
 //! The product through its host edge against the second program, byte for
 //! byte: the answer, and all memory, register and result bytes.
 
+#[path = "../common/mod.rs"]
+mod common;
 mod counts;
 mod figures;
 

@@ -1,0 +1,111 @@
+// For tests only: every entry of both engines with C linkage, on whole records in lent words, so that a test written in
+// another language can give any record, hand-made ones too, and read back the whole answer. It is no part of the
+// product: nothing that is shipped links it, and it decides nothing.
+//
+// Its functions have no contract. They are proved to stay inside what they are lent and to return; what they answer is
+// compared with the second program, word for word, and a word read from or written to a wrong place shows there.
+//
+// A block of words holds a record. A word that the block lacks reads 0, and a place that it lacks takes nothing.
+//
+//   part         words  what they hold, in this order
+//   instruction      9  a mark (0: a bubble, or none kept; 1: an instruction), address, status, code, function, rA, rB, constant, next
+//   state           20  fifteen registers, ZF, SF, OF, status, last address
+//
+//   block        words  what they hold, each with its first place
+//   machine         22  0 state, 20 program address, 21 count
+//   pipeline        81  0 predicted address; 1 D: instruction; 10 E: instruction, a, b; 21 M: instruction, a, result, holds;
+//                       33 W: instruction, result, holds, word, status; 46 state; 66 retired; 67 cycles;
+//                       68 cycles charged for load-use, mispredict, return; 71 kept: instruction, holds
+//   fetched          9  0 instruction
+//
+// A status is its number in document 01, any other word AOK. Of a word for a byte the lowest byte counts, of a word for
+// a truth value the lowest bit. Where a record has a bubble, or keeps none, only the mark is written: the words after
+// it stay as they were.
+mod layout;
+mod reading;
+mod writing;
+
+use crate::layout::STATE;
+use crate::reading::codes_in;
+use crate::reading::machine_in;
+use crate::reading::pipeline_in;
+use crate::reading::registers_in;
+use crate::writing::put_instruction;
+use crate::writing::put_machine;
+use crate::writing::put_pipeline;
+
+// The instruction at an address, into a block for one.
+#[no_mangle]
+pub extern "C" fn trial_fetch(memory: &mut [u8], address: u64, block: &mut [u64]) {
+    let instruction = fetching::fetch(memory, address);
+    put_instruction(block, 0, instruction);
+}
+
+// A fresh machine record, with the registers and codes that the block holds.
+#[no_mangle]
+pub extern "C" fn trial_plain_start(block: &mut [u64], address: u64) {
+    let fresh = plain::start(registers_in(block, 0), codes_in(block, 0), address);
+    put_machine(block, fresh);
+}
+
+#[no_mangle]
+pub extern "C" fn trial_plain_step(block: &mut [u64], memory: &mut [u8]) -> u64 {
+    let answer = plain::step(machine_in(block), memory);
+    let after = answer.machine;
+    put_machine(block, after);
+    answer.number
+}
+
+#[no_mangle]
+pub extern "C" fn trial_plain_run(
+    block: &mut [u64],
+    memory: &mut [u8],
+    budget: u64,
+    log: &mut [u64],
+) -> u64 {
+    let answer = plain::run(machine_in(block), memory, budget, log);
+    let after = answer.machine;
+    put_machine(block, after);
+    answer.number
+}
+
+// A fresh pipeline record, with the registers and codes that the block holds.
+#[no_mangle]
+pub extern "C" fn trial_pipe_start(block: &mut [u64], address: u64) {
+    let fresh = pipe::start(registers_in(block, STATE), codes_in(block, STATE), address);
+    put_pipeline(block, fresh);
+}
+
+#[no_mangle]
+pub extern "C" fn trial_pipe_clock(block: &mut [u64], memory: &mut [u8]) -> u64 {
+    let answer = pipe::clock(pipeline_in(block), memory);
+    let after = answer.pipeline;
+    put_pipeline(block, after);
+    answer.number
+}
+
+#[no_mangle]
+pub extern "C" fn trial_pipe_run_unlogged(
+    block: &mut [u64],
+    memory: &mut [u8],
+    budget: u64,
+) -> u64 {
+    let answer = pipe::run_unlogged(pipeline_in(block), memory, budget);
+    let after = answer.pipeline;
+    put_pipeline(block, after);
+    answer.number
+}
+
+#[no_mangle]
+pub extern "C" fn trial_pipe_run(
+    block: &mut [u64],
+    memory: &mut [u8],
+    budget: u64,
+    addresses: &mut [u64],
+    cycles: &mut [u64],
+) -> u64 {
+    let answer = pipe::run(pipeline_in(block), memory, budget, addresses, cycles);
+    let after = answer.pipeline;
+    put_pipeline(block, after);
+    answer.number
+}

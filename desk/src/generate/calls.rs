@@ -1,0 +1,187 @@
+//! Calls of both engines, with records fresh, reached by a run and made by
+//! hand, some of them to be refused for any reasons together.
+
+use super::records::Record;
+use super::{Generator, Kind, Random};
+use crate::second::arithmetic::Codes;
+use crate::second::machine::{Registers, MEMORY_LIMIT};
+use crate::second::replay::read_registers;
+
+/// What is lent and given to one call, and, after it, what it left.
+#[derive(Clone, Debug, PartialEq, Eq)]
+pub struct Call<R> {
+    pub record: R,
+    pub memory: Vec<u8>,
+    pub budget: u64,
+    /// The lent logs, none for a run without.
+    pub logs: Vec<Vec<u64>>,
+}
+
+/// Where the record of a call comes from.
+#[derive(Clone, Copy, Debug, PartialEq, Eq)]
+pub enum Origin {
+    Fresh,
+    Reached,
+    HandMade,
+}
+
+/// What is called: a run with logs or without, or a single step or clock.
+#[derive(Clone, Copy, Debug, PartialEq, Eq)]
+pub enum Way {
+    Logged,
+    Unlogged,
+    Single,
+}
+
+/// Makes one call after the other.
+pub struct Calls {
+    random: Random,
+    programs: Generator,
+}
+
+impl Calls {
+    pub fn new(seed: u64) -> Calls {
+        Calls {
+            random: Random::new(seed),
+            programs: Generator::new(seed.rotate_left(32)),
+        }
+    }
+
+    /// The next call of one engine; one in four is spoilt.
+    pub fn call<R: Record>(&mut self, way: Way) -> (Origin, Call<R>) {
+        let (origin, mut record, mut memory) = self.record::<R>();
+        let random = &mut self.random;
+        let spoilt = random.chance(1, 4);
+        let mut spoil = || spoilt && random.chance(1, 2);
+        let [of_memory, of_budget, of_logs, of_record] = [spoil(), spoil(), spoil(), spoil()];
+        if of_memory {
+            memory = refused_memory(random);
+        }
+        let mut budget = match way {
+            Way::Single => 1,
+            _ => budget(random, R::LIMIT.saturating_sub(record.spent())),
+        };
+        if of_budget {
+            spoil_budget(random, &mut record, way, &mut budget);
+        }
+        if of_record {
+            record.spoil(random, memory.len());
+        }
+        let logs = match way {
+            // For a budget over the limit no long log is lent.
+            Way::Logged if of_budget => lent_logs(random, R::LOGS, budget.min(400), of_logs),
+            Way::Logged => lent_logs(random, R::LOGS, budget, of_logs),
+            _ => Vec::new(),
+        };
+        let call = Call {
+            record,
+            memory,
+            budget,
+            logs,
+        };
+        (origin, call)
+    }
+
+    /// A record with memory for it.
+    fn record<R: Record>(&mut self) -> (Origin, R, Vec<u8>) {
+        let (mut memory, registers, start) = self.program();
+        let random = &mut self.random;
+        let codes = any_codes(random);
+        let mut record = R::fresh(registers, codes, start);
+        let origins = [
+            Origin::Fresh,
+            Origin::Reached,
+            Origin::HandMade,
+            Origin::HandMade,
+        ];
+        let origin = random.pick(&origins);
+        match origin {
+            Origin::Fresh => {}
+            Origin::Reached => {
+                for _ in 0..1 + random.below(30) {
+                    record.advance(&mut memory);
+                }
+            }
+            Origin::HandMade => record = R::made(random, memory.len()),
+        }
+        (origin, record, memory)
+    }
+
+    /// A program's memory, registers and start.
+    fn program(&mut self) -> (Vec<u8>, Registers, u64) {
+        let kinds = Kind::ALL.map(|kind| match kind {
+            Kind::Refusals => Kind::RandomBytes,
+            kind => kind,
+        });
+        let case = self.programs.case_of(self.random.pick(&kinds));
+        (case.image, read_registers(&case.registers), case.start)
+    }
+
+    /// Memory and an address to fetch from, inside and outside of all limits.
+    pub fn fetch(&mut self) -> (Vec<u8>, u64) {
+        let (mut memory, _, start) = self.program();
+        let random = &mut self.random;
+        if random.chance(1, 8) {
+            memory = refused_memory(random);
+        }
+        let size = memory.len() as u64;
+        let (few, far) = (random.below(12), random.word());
+        let address = match random.below(8) {
+            0 => size.wrapping_sub(few),
+            1 => random.pick(&[far, u64::MAX - few, size + few, 1 << 32, 1 << 63]),
+            2 => start,
+            _ => far % (size + 1),
+        };
+        (memory, address)
+    }
+}
+
+/// The codes of any number.
+pub(super) fn any_codes(random: &mut Random) -> Codes {
+    Codes::from_number(random.below(8)).expect("up to 7")
+}
+
+/// Memory that refusal 1 meets.
+fn refused_memory(random: &mut Random) -> Vec<u8> {
+    let over = MEMORY_LIMIT + 1 + random.below(200) as usize;
+    let size = random.pick(&[0, MEMORY_LIMIT + 1, over]);
+    random.bytes(size)
+}
+
+/// A budget from 1 on of what is left, small ones more often.
+fn budget(random: &mut Random, left: u64) -> u64 {
+    let left = left.max(1);
+    if random.chance(1, 4_000) {
+        return left;
+    }
+    let most = random.pick(&[1, 4, 12, 12, 60, 300]);
+    (1 + random.below(most)).min(left)
+}
+
+/// Makes refusal 3 meet the call: by its budget, or by what was spent before.
+fn spoil_budget<R: Record>(random: &mut Random, record: &mut R, way: Way, budget: &mut u64) {
+    let over = (R::LIMIT + 1).saturating_sub(record.spent());
+    let too_much = R::LIMIT + 1 - (*budget).min(R::LIMIT);
+    match random.below(4) {
+        0 if way != Way::Single => *budget = 0,
+        1 if way != Way::Single => *budget = random.pick(&[over, over + 7, u64::MAX]),
+        _ => record.spend(random.pick(&[too_much, R::LIMIT, R::LIMIT + 1, u64::MAX])),
+    }
+}
+
+/// Logs of the length that fits, or longer, filled so that a place written or
+/// left shows; with short, one of them or all shorter.
+fn lent_logs(random: &mut Random, count: usize, fits: u64, short: bool) -> Vec<Vec<u64>> {
+    let first_short = random.below(count as u64) as usize;
+    let lent = |number: usize| {
+        let shorter = short && fits > 0 && (number == first_short || random.chance(1, 2));
+        let (below, beyond) = (random.below(fits.max(1)), random.below(20));
+        let length = match shorter {
+            true => random.pick(&[0, fits - 1, below]),
+            false => fits + random.pick(&[0, 1, beyond]),
+        };
+        let first = random.word();
+        (0..length).map(|place| first.wrapping_add(place)).collect()
+    };
+    (0..count).map(lent).collect()
+}

@@ -1,0 +1,288 @@
+//! Records of both engines made by hand: any value in any field.
+
+use super::calls::any_codes;
+use super::Random;
+use crate::second::arithmetic::Codes;
+use crate::second::letter::{Accessed, Decoded, Executed, Instruction, Machine, Pipeline, Retired};
+use crate::second::machine::{Registers, Status, CYCLE_LIMIT, PLAIN_LIMIT, REGISTER_COUNT};
+use crate::second::pipeline::Kinds;
+use crate::second::table::{CMOV, JXX, OPQ, POPQ};
+use std::fmt::Debug;
+
+/// A record of one of the two engines.
+pub trait Record: Clone + Debug + PartialEq {
+    /// What all runs of a machine together may spend.
+    const LIMIT: u64;
+    /// How many logs a run takes.
+    const LOGS: usize;
+
+    fn fresh(registers: Registers, codes: Codes, start: u64) -> Self;
+
+    /// One step or clock, by the letter.
+    fn advance(&mut self, memory: &mut [u8]);
+
+    /// A record made by hand that is not refused for what it holds.
+    fn made(random: &mut Random, size: usize) -> Self;
+
+    /// Makes refusal 5 meet the record, if it can.
+    fn spoil(&mut self, random: &mut Random, size: usize);
+
+    /// What was spent of the limit so far.
+    fn spent(&self) -> u64;
+
+    fn spend(&mut self, spent: u64);
+
+    /// How many instructions were performed or retired so far.
+    fn performed(&self) -> u64;
+
+    fn status(&self) -> Status;
+}
+
+impl Record for Machine {
+    const LIMIT: u64 = PLAIN_LIMIT;
+    const LOGS: usize = 1;
+
+    fn fresh(registers: Registers, codes: Codes, start: u64) -> Machine {
+        Machine::fresh(registers, codes, start)
+    }
+
+    fn advance(&mut self, memory: &mut [u8]) {
+        self.step(memory).expect("a step");
+    }
+
+    fn made(random: &mut Random, size: usize) -> Machine {
+        Machine {
+            registers: registers(random, size),
+            codes: any_codes(random),
+            address: value(random, size),
+            status: status(random, 7, 8),
+            last: value(random, size),
+            count: spent(random, PLAIN_LIMIT),
+        }
+    }
+
+    /// Refusal 5 asks nothing of a machine record.
+    fn spoil(&mut self, _: &mut Random, _: usize) {}
+
+    fn spent(&self) -> u64 {
+        self.count
+    }
+
+    fn spend(&mut self, spent: u64) {
+        self.count = spent;
+    }
+
+    fn performed(&self) -> u64 {
+        self.count
+    }
+
+    fn status(&self) -> Status {
+        self.status
+    }
+}
+
+impl Record for Pipeline {
+    const LIMIT: u64 = CYCLE_LIMIT;
+    const LOGS: usize = 2;
+
+    fn fresh(registers: Registers, codes: Codes, start: u64) -> Pipeline {
+        Pipeline::fresh(registers, codes, start)
+    }
+
+    fn advance(&mut self, memory: &mut [u8]) {
+        self.clock(memory).expect("a clock");
+    }
+
+    fn made(random: &mut Random, size: usize) -> Pipeline {
+        let cycles = spent(random, CYCLE_LIMIT);
+        let mut record = Pipeline {
+            predicted: value(random, size),
+            registers: registers(random, size),
+            codes: any_codes(random),
+            status: status(random, 15, 16),
+            last: value(random, size),
+            retired: count(random, cycles),
+            cycles,
+            kinds: Kinds {
+                load_use: count(random, cycles),
+                mispredict: count(random, cycles),
+                returns: count(random, cycles),
+            },
+            ..Pipeline::fresh(Registers::default(), Codes::default(), 0)
+        };
+        for place in 0..5 {
+            if random.chance(4, 5) {
+                let instruction = instruction(random, size);
+                hold(&mut record, place, instruction, random, size);
+            }
+        }
+        record
+    }
+
+    fn spoil(&mut self, random: &mut Random, size: usize) {
+        for _ in 0..random.pick(&[1, 1, 1, 3]) {
+            let more = self.cycles.saturating_add(1 + random.below(3));
+            let count = random.pick(&[more, u64::MAX]);
+            match random.below(12) {
+                0 => self.retired = count,
+                1 => self.kinds.load_use = count,
+                2 => self.kinds.mispredict = count,
+                3 => self.kinds.returns = count,
+                _ => {
+                    let instruction = refused_instruction(random, size);
+                    let place = random.below(5);
+                    hold(self, place, instruction, random, size);
+                }
+            }
+        }
+    }
+
+    fn spent(&self) -> u64 {
+        self.cycles
+    }
+
+    fn spend(&mut self, spent: u64) {
+        self.cycles = spent;
+    }
+
+    fn performed(&self) -> u64 {
+        self.retired
+    }
+
+    fn status(&self) -> Status {
+        self.status
+    }
+}
+
+/// A value that is often an address inside, and sometimes at an end of the
+/// number line.
+fn value(random: &mut Random, size: usize) -> u64 {
+    let size = size as u64;
+    match random.below(8) {
+        0 => random.word(),
+        1 => random.pick(&[0, 1, 1 << 63, (1 << 63) - 1, u64::MAX, u64::MAX - 7]),
+        2 => size.wrapping_add(3).wrapping_sub(random.below(14)),
+        _ => random.below(size + 1),
+    }
+}
+
+fn registers(random: &mut Random, size: usize) -> Registers {
+    let mut registers = [0; REGISTER_COUNT];
+    for register in &mut registers {
+        *register = value(random, size);
+    }
+    Registers(registers)
+}
+
+/// AOK in so many cases of so many, otherwise any of the others.
+fn status(random: &mut Random, good: u64, of: u64) -> Status {
+    if random.chance(good, of) {
+        return Status::Aok;
+    }
+    random.pick(&[Status::Hlt, Status::Adr, Status::Ins])
+}
+
+/// What was spent: mostly little, sometimes all but a little.
+fn spent(random: &mut Random, limit: u64) -> u64 {
+    match random.below(4) {
+        0 => limit - 1 - random.below(400),
+        1 => random.below(limit),
+        _ => random.below(200),
+    }
+}
+
+/// A count that is at most the cycles.
+fn count(random: &mut Random, cycles: u64) -> u64 {
+    let any = random.below(cycles + 1);
+    random.pick(&[0, cycles, any, any])
+}
+
+/// A register number; few of them, so that sources and targets meet.
+fn register(random: &mut Random) -> u8 {
+    match random.below(4) {
+        0 => random.below(16) as u8,
+        _ => random.pick(&[0, 4, 4, 14, 15]),
+    }
+}
+
+/// An instruction that a record may hold.
+fn instruction(random: &mut Random, size: usize) -> Instruction {
+    let code = random.below(u64::from(POPQ) + 1) as u8;
+    Instruction {
+        address: value(random, size),
+        status: status(random, 7, 8),
+        code,
+        function: random.below(functions(code)) as u8,
+        ra: register(random),
+        rb: register(random),
+        constant: value(random, size),
+        next: value(random, size),
+    }
+}
+
+/// How many functions of a code a record may hold, from 0 on.
+fn functions(code: u8) -> u64 {
+    match code {
+        CMOV | JXX => 7,
+        OPQ => 4,
+        _ => 256,
+    }
+}
+
+/// An instruction that refusal 5 meets.
+fn refused_instruction(random: &mut Random, size: usize) -> Instruction {
+    let mut spoilt = instruction(random, size);
+    let register = random.pick(&[16, 17, 31, 128, 255]);
+    match random.below(4) {
+        0 => spoilt.ra = register,
+        1 => spoilt.rb = register,
+        2 => spoilt.code = random.pick(&[12, 13, 15, 16, 18, 255]),
+        _ => {
+            spoilt.code = random.pick(&[CMOV, JXX, OPQ]);
+            let first = functions(spoilt.code) as u8;
+            spoilt.function = random.pick(&[first, first + 1, 16, 128, 255]);
+        }
+    }
+    spoilt
+}
+
+/// Puts an instruction into D, E, M or W, or keeps it, by the place's number,
+/// with any values for what the place adds.
+fn hold(
+    record: &mut Pipeline,
+    place: u64,
+    instruction: Instruction,
+    random: &mut Random,
+    size: usize,
+) {
+    let [one, other] = [value(random, size), value(random, size)];
+    let holds = random.chance(1, 2);
+    match place {
+        0 => record.d = Some(instruction),
+        1 => {
+            record.e = Some(Decoded {
+                instruction,
+                a: one,
+                b: other,
+            })
+        }
+        2 => {
+            record.m = Some(Executed {
+                instruction,
+                a: one,
+                result: other,
+                holds,
+            })
+        }
+        3 => {
+            record.w = Some(Accessed {
+                instruction,
+                result: one,
+                holds,
+                word: other,
+                status: status(random, 5, 6),
+            })
+        }
+        _ => record.kept = Some(Retired { instruction, holds }),
+    }
+}

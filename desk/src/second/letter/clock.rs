@@ -1,0 +1,205 @@
+//! One clock of the pipelined engine by the letter.
+
+use super::pipeline::{Accessed, Decoded, Executed, Pipeline, Retired};
+use super::work::{codes_after, holds, result, Access};
+use super::{fetch, Instruction};
+use crate::second::arithmetic::Codes;
+use crate::second::machine::{Status, NONE};
+use crate::second::table::{CALL, JXX};
+
+impl Pipeline {
+    /// One clock; on a stopped machine it changes nothing.
+    pub(super) fn advance(&mut self, memory: &mut [u8]) {
+        if self.status != Status::Aok {
+            return;
+        }
+        let before = *self;
+        self.cycles += 1;
+        self.retire();
+        if self.status != Status::Aok {
+            return;
+        }
+        // Memory is read before the clock's write: fetch, load, then store.
+        let fetched = fetch(memory, before.fetch_address());
+        self.w = before.m.map(|m| m.accessed(memory));
+        if let Some(m) = before.m {
+            m.access().store(memory);
+        }
+        self.m = before.e.map(|e| e.executed(before.codes));
+        self.codes = before
+            .e
+            .map_or(before.codes, |e| e.codes_after(before.codes));
+        self.e = before.d.map(|d| before.decoded(d, &self.m, &self.w));
+        self.d = Some(fetched);
+        self.predicted = predicted(&fetched);
+        self.control(&before, memory.len());
+    }
+
+    /// The controls at the end of a clock, over what it does without them.
+    fn control(&mut self, before: &Pipeline, size: usize) {
+        if before.load_use() {
+            self.e = None;
+        }
+        if before.mispredicted() {
+            (self.d, self.e) = (None, None);
+        }
+        if before.returning() {
+            (self.predicted, self.d) = (before.predicted, None);
+        }
+        if before.load_use() {
+            (self.predicted, self.d) = (before.predicted, before.d);
+        }
+        if before.bad_in_m(size) {
+            (self.m, self.codes) = (None, before.codes);
+        }
+    }
+
+    /// Retires what stands in W, if anything. With a bad status only counts,
+    /// status and last address change.
+    fn retire(&mut self) {
+        let Some(w) = self.w else { return };
+        self.retired += 1;
+        self.last = w.instruction.address;
+        self.charge(&w.instruction);
+        self.status = w.status;
+        if w.status == Status::Aok {
+            self.registers
+                .set(w.instruction.result_target(w.holds), w.result);
+            self.registers.set(w.instruction.loaded_target(), w.word);
+            self.kept = Some(Retired {
+                instruction: w.instruction,
+                holds: w.holds,
+            });
+        }
+    }
+
+    /// The charge of a retiring instruction, by the kept one before it.
+    fn charge(&mut self, retiring: &Instruction) {
+        let Some(kept) = self.kept else { return };
+        let before = kept.instruction;
+        if retiring.has_source(before.loaded_target()) {
+            self.kinds.load_use += 1;
+        }
+        // Function 0 is the jump without a condition.
+        if before.is_jump() && before.function != 0 && !kept.holds {
+            self.kinds.mispredict += 2;
+        }
+        if before.is_return() {
+            self.kinds.returns += 3;
+        }
+    }
+
+    /// Where fetch reads.
+    fn fetch_address(&self) -> u64 {
+        match (&self.m, &self.w) {
+            (Some(m), _) if m.instruction.is_jump() && !m.holds => m.instruction.next,
+            (_, Some(w)) if w.instruction.is_return() => w.word,
+            _ => self.predicted,
+        }
+    }
+
+    /// What decode makes of the instruction in D.
+    fn decoded(&self, d: Instruction, e: &Option<Executed>, m: &Option<Accessed>) -> Decoded {
+        let [a, b] = d.sources().map(|source| self.value(source, e, m));
+        Decoded {
+            instruction: d,
+            a,
+            b,
+        }
+    }
+
+    /// The value of a source: the first match of document 01's list, with what
+    /// E, M and W have in this clock.
+    fn value(&self, source: u8, e: &Option<Executed>, m: &Option<Accessed>) -> u64 {
+        let result = |held: &Accessed| (held.instruction.result_target(held.holds), held.result);
+        let loaded = |held: &Accessed| (held.instruction.loaded_target(), held.word);
+        let list = [
+            e.map(|e| (e.instruction.result_target(e.holds), e.result)),
+            m.as_ref().map(loaded),
+            m.as_ref().map(result),
+            self.w.as_ref().map(loaded),
+            self.w.as_ref().map(result),
+        ];
+        let matching = |(target, _): &(u8, u64)| source != NONE && *target == source;
+        match list.into_iter().flatten().find(matching) {
+            Some((_, value)) => value,
+            None => self.registers.get(source),
+        }
+    }
+
+    /// A load in E whose register is a source in D.
+    pub fn load_use(&self) -> bool {
+        match (&self.d, &self.e) {
+            (Some(d), Some(e)) => d.has_source(e.instruction.loaded_target()),
+            _ => false,
+        }
+    }
+
+    /// A jump in E whose condition is false.
+    pub fn mispredicted(&self) -> bool {
+        self.e
+            .is_some_and(|e| e.instruction.is_jump() && !holds(&e.instruction, self.codes))
+    }
+
+    /// A ret in D, E or M.
+    pub fn returning(&self) -> bool {
+        let [d, e, m, ..] = self.instructions();
+        [d, e, m].iter().flatten().any(Instruction::is_return)
+    }
+
+    /// A bad status in M, after its access.
+    pub fn bad_in_m(&self, size: usize) -> bool {
+        self.m.is_some_and(|m| m.status(size) != Status::Aok)
+    }
+}
+
+impl Decoded {
+    /// What execute makes of it. Conditions look at the codes as the clock
+    /// began.
+    fn executed(&self, codes: Codes) -> Executed {
+        Executed {
+            instruction: self.instruction,
+            a: self.a,
+            result: result(&self.instruction, self.a, self.b),
+            holds: holds(&self.instruction, codes),
+        }
+    }
+
+    fn codes_after(&self, before: Codes) -> Codes {
+        codes_after(&self.instruction, self.a, self.b, before)
+    }
+}
+
+impl Executed {
+    fn access(&self) -> Access {
+        Access::of(&self.instruction, self.a, self.result)
+    }
+
+    /// The status after the access: outside it is ADR, whatever it was.
+    fn status(&self, size: usize) -> Status {
+        match self.access().is_outside(size) {
+            true => Status::Adr,
+            false => self.instruction.status,
+        }
+    }
+
+    /// What it is after its access.
+    fn accessed(&self, memory: &[u8]) -> Accessed {
+        Accessed {
+            instruction: self.instruction,
+            result: self.result,
+            holds: self.holds,
+            word: self.access().loaded(memory),
+            status: self.status(memory.len()),
+        }
+    }
+}
+
+/// The predicted address: call and jXX go to C, others to the next address,
+/// which for a bad fetch is its own.
+fn predicted(fetched: &Instruction) -> u64 {
+    match fetched.code {
+        CALL | JXX => fetched.constant,
+        _ => fetched.next,
+    }
+}

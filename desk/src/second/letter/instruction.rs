@@ -1,0 +1,79 @@
+//! An instruction, and what its code says of it.
+
+use crate::second::machine::{Status, NONE, RSP};
+use crate::second::table::{CALL, CMOV, IRMOVQ, JXX, MRMOVQ, OPQ, POPQ, PUSHQ, RET, RMMOVQ};
+
+/// An instruction as it was fetched; in a hand-made record, with any values.
+#[derive(Clone, Copy, Debug, PartialEq, Eq)]
+pub struct Instruction {
+    pub address: u64,
+    /// The status of its fetch.
+    pub status: Status,
+    pub code: u8,
+    pub function: u8,
+    pub ra: u8,
+    pub rb: u8,
+    pub constant: u64,
+    /// The address after it. A record's own, whatever its code's length is.
+    pub next: u64,
+}
+
+impl Instruction {
+    /// The sources A and B. One with a bad fetch status has none.
+    pub fn sources(&self) -> [u8; 2] {
+        if self.status != Status::Aok {
+            return [NONE, NONE];
+        }
+        match self.code {
+            CMOV => [self.ra, NONE],
+            RMMOVQ | OPQ => [self.ra, self.rb],
+            MRMOVQ => [NONE, self.rb],
+            PUSHQ => [self.ra, RSP],
+            POPQ | RET => [RSP, RSP],
+            CALL => [NONE, RSP],
+            _ => [NONE, NONE],
+        }
+    }
+
+    /// Whether a register is one of the sources; 15 matches nothing.
+    pub fn has_source(&self, register: u8) -> bool {
+        register != NONE && self.sources().contains(&register)
+    }
+
+    /// The register that takes the result. Only a false cmov loses its own.
+    pub fn result_target(&self, holds: bool) -> u8 {
+        match self.code {
+            CMOV if !holds => NONE,
+            CMOV | IRMOVQ | OPQ => self.rb,
+            CALL | RET | PUSHQ | POPQ => RSP,
+            _ => NONE,
+        }
+    }
+
+    /// The register that takes the word loaded.
+    pub fn loaded_target(&self) -> u8 {
+        match self.code {
+            MRMOVQ | POPQ => self.ra,
+            _ => NONE,
+        }
+    }
+
+    pub fn is_jump(&self) -> bool {
+        self.code == JXX
+    }
+
+    pub fn is_return(&self) -> bool {
+        self.code == RET
+    }
+
+    /// Whether a record may hold it: refusal 5 looks at both register numbers
+    /// and the code of any, and at the function of a move, a jump or an OPq.
+    pub fn is_allowed(&self) -> bool {
+        let function_allowed = match self.code {
+            CMOV | JXX => self.function <= 6,
+            OPQ => self.function <= 3,
+            _ => true,
+        };
+        self.ra <= NONE && self.rb <= NONE && self.code <= POPQ && function_allowed
+    }
+}

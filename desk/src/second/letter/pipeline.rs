@@ -1,0 +1,148 @@
+//! The pipelined engine by the letter: its record and its runs.
+
+use super::refusals::{lowest, of_budget, of_logs, of_memory};
+use super::Instruction;
+use crate::second::arithmetic::Codes;
+use crate::second::machine::{Refusal, Registers, Status, CYCLE_LIMIT};
+use crate::second::pipeline::{Kinds, Logs};
+
+/// What E holds: an instruction with the values of its sources.
+#[derive(Clone, Copy, Debug, PartialEq, Eq)]
+pub struct Decoded {
+    pub instruction: Instruction,
+    pub a: u64,
+    pub b: u64,
+}
+
+/// What M holds: with its result, and whether its condition holds.
+#[derive(Clone, Copy, Debug, PartialEq, Eq)]
+pub struct Executed {
+    pub instruction: Instruction,
+    pub a: u64,
+    pub result: u64,
+    pub holds: bool,
+}
+
+/// What W holds: with the word loaded, and the status after the access.
+#[derive(Clone, Copy, Debug, PartialEq, Eq)]
+pub struct Accessed {
+    pub instruction: Instruction,
+    pub result: u64,
+    pub holds: bool,
+    pub word: u64,
+    pub status: Status,
+}
+
+/// What is kept of the last instruction retired with AOK.
+#[derive(Clone, Copy, Debug, PartialEq, Eq)]
+pub struct Retired {
+    pub instruction: Instruction,
+    pub holds: bool,
+}
+
+/// The pipelined machine's record; its memory is lent at each call.
+#[derive(Clone, Copy, Debug, PartialEq, Eq)]
+pub struct Pipeline {
+    /// F holds only the predicted address.
+    pub predicted: u64,
+    /// D, E, M and W each hold an instruction, or a bubble.
+    pub d: Option<Instruction>,
+    pub e: Option<Decoded>,
+    pub m: Option<Executed>,
+    pub w: Option<Accessed>,
+    pub registers: Registers,
+    pub codes: Codes,
+    pub status: Status,
+    pub last: u64,
+    pub retired: u64,
+    pub cycles: u64,
+    pub kinds: Kinds,
+    pub kept: Option<Retired>,
+}
+
+impl Pipeline {
+    /// A fresh start: F holds the start address and the rest are bubbles.
+    pub fn fresh(registers: Registers, codes: Codes, start: u64) -> Pipeline {
+        Pipeline {
+            predicted: start,
+            d: None,
+            e: None,
+            m: None,
+            w: None,
+            registers,
+            codes,
+            status: Status::Aok,
+            last: start,
+            retired: 0,
+            cycles: 0,
+            kinds: Kinds::default(),
+            kept: None,
+        }
+    }
+
+    /// The instructions in D, E, M and W and the kept one, in this order.
+    pub fn instructions(&self) -> [Option<Instruction>; 5] {
+        [
+            self.d,
+            self.e.map(|e| e.instruction),
+            self.m.map(|m| m.instruction),
+            self.w.map(|w| w.instruction),
+            self.kept.map(|kept| kept.instruction),
+        ]
+    }
+
+    /// Every refusal that applies to a run; logs is empty for one without.
+    pub fn reasons(&self, memory: &[u8], budget: u64, logs: &[&[u64]]) -> Vec<Refusal> {
+        let all = [
+            of_memory(memory),
+            of_budget(self.cycles, budget, CYCLE_LIMIT),
+            of_logs(logs, budget),
+            self.refusal_of_record(),
+        ];
+        all.into_iter().flatten().collect()
+    }
+
+    /// Refusal 5, of the record: its instructions and its counts.
+    fn refusal_of_record(&self) -> Option<Refusal> {
+        let Kinds {
+            load_use,
+            mispredict,
+            returns,
+        } = self.kinds;
+        let counts = [self.retired, load_use, mispredict, returns];
+        let instructions = self.instructions();
+        let allowed = instructions.iter().flatten().all(Instruction::is_allowed)
+            && counts.iter().all(|count| *count <= self.cycles);
+        (!allowed).then_some(Refusal::Record)
+    }
+
+    /// A clock is a run of 1 without logs.
+    pub fn clock(&mut self, memory: &mut [u8]) -> Result<(), Refusal> {
+        self.run_unlogged(memory, 1)
+    }
+
+    /// A run without logs.
+    pub fn run_unlogged(&mut self, memory: &mut [u8], budget: u64) -> Result<(), Refusal> {
+        lowest(&self.reasons(memory, budget, &[]))?;
+        for _ in 0..budget {
+            self.advance(memory);
+        }
+        Ok(())
+    }
+
+    /// A run with both logs: place k - 1 takes the k-th retirement.
+    pub fn run(&mut self, memory: &mut [u8], budget: u64, logs: Logs) -> Result<(), Refusal> {
+        lowest(&self.reasons(memory, budget, &[logs.addresses, logs.cycles]))?;
+        let mut place = 0;
+        for _ in 0..budget {
+            let before = self.retired;
+            self.advance(memory);
+            if self.retired > before {
+                logs.addresses[place] = self.last;
+                logs.cycles[place] = self.cycles;
+                place += 1;
+            }
+        }
+        Ok(())
+    }
+}

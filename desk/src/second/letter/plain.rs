@@ -1,0 +1,104 @@
+//! The plain engine by the letter.
+
+use super::refusals::{lowest, of_budget, of_logs, of_memory};
+use super::work::{codes_after, holds, result, Access};
+use super::{fetch, Instruction};
+use crate::second::arithmetic::Codes;
+use crate::second::machine::{Refusal, Registers, Status, PLAIN_LIMIT};
+use crate::second::table::{CALL, JXX, RET};
+
+/// The machine record; its memory is lent at each call.
+#[derive(Clone, Copy, Debug, PartialEq, Eq)]
+pub struct Machine {
+    pub registers: Registers,
+    pub codes: Codes,
+    pub address: u64,
+    pub status: Status,
+    pub last: u64,
+    pub count: u64,
+}
+
+impl Machine {
+    /// A fresh start.
+    pub fn fresh(registers: Registers, codes: Codes, start: u64) -> Machine {
+        Machine {
+            registers,
+            codes,
+            address: start,
+            status: Status::Aok,
+            last: start,
+            count: 0,
+        }
+    }
+
+    /// Every refusal that applies to a run; logs is empty for one without.
+    pub fn reasons(&self, memory: &[u8], budget: u64, logs: &[&[u64]]) -> Vec<Refusal> {
+        let all = [
+            of_memory(memory),
+            of_budget(self.count, budget, PLAIN_LIMIT),
+            of_logs(logs, budget),
+        ];
+        all.into_iter().flatten().collect()
+    }
+
+    /// A step is a run of 1 without a log.
+    pub fn step(&mut self, memory: &mut [u8]) -> Result<(), Refusal> {
+        lowest(&self.reasons(memory, 1, &[]))?;
+        self.perform(memory);
+        Ok(())
+    }
+
+    /// A run with a log.
+    pub fn run(&mut self, memory: &mut [u8], budget: u64, log: &mut [u64]) -> Result<(), Refusal> {
+        lowest(&self.reasons(memory, budget, &[log]))?;
+        // A stop comes last, so that the k-th performed is that of turn k - 1.
+        for place in log.iter_mut().take(budget as usize) {
+            if let Some(address) = self.perform(memory) {
+                *place = address;
+            }
+        }
+        Ok(())
+    }
+
+    /// Performs one instruction and gives its address; none on a stopped
+    /// machine, which does not change.
+    fn perform(&mut self, memory: &mut [u8]) -> Option<u64> {
+        if self.status != Status::Aok {
+            return None;
+        }
+        let instruction = fetch(memory, self.address);
+        self.count += 1;
+        self.last = self.address;
+        self.status = instruction.status;
+        if self.status == Status::Aok {
+            self.carry_out(&instruction, memory);
+        }
+        Some(self.last)
+    }
+
+    /// Decode, execute, memory, write back, program address. An access outside
+    /// stops the machine before anything has changed.
+    fn carry_out(&mut self, instruction: &Instruction, memory: &mut [u8]) {
+        let [a, b] = instruction
+            .sources()
+            .map(|source| self.registers.get(source));
+        let result = result(instruction, a, b);
+        let holds = holds(instruction, self.codes);
+        let access = Access::of(instruction, a, result);
+        if access.is_outside(memory.len()) {
+            self.status = Status::Adr;
+            return;
+        }
+        let loaded = access.loaded(memory);
+        access.store(memory);
+        self.codes = codes_after(instruction, a, b, self.codes);
+        self.registers.set(instruction.result_target(holds), result);
+        self.registers.set(instruction.loaded_target(), loaded);
+        self.address = match instruction.code {
+            JXX if holds => instruction.constant,
+            CALL => instruction.constant,
+            RET => loaded,
+            _ => instruction.next,
+        };
+    }
+}

@@ -1,0 +1,29 @@
+//! The refusals that runs of both engines share, each by itself.
+
+use crate::second::machine::{Refusal, MEMORY_LIMIT};
+
+/// Refusal 1, of the memory's size.
+pub fn of_memory(memory: &[u8]) -> Option<Refusal> {
+    let size = memory.len();
+    (size == 0 || size > MEMORY_LIMIT).then_some(Refusal::Memory)
+}
+
+/// Refusal 3, of the budget with what was spent before.
+pub fn of_budget(spent: u64, budget: u64, limit: u64) -> Option<Refusal> {
+    let end = u128::from(spent) + u128::from(budget);
+    (budget == 0 || end > u128::from(limit)).then_some(Refusal::Budget)
+}
+
+/// Refusal 4, of the lent logs.
+pub fn of_logs(logs: &[&[u64]], budget: u64) -> Option<Refusal> {
+    let short = |log: &&[u64]| (log.len() as u128) < u128::from(budget);
+    logs.iter().any(short).then_some(Refusal::Buffer)
+}
+
+/// Lowest number wins.
+pub fn lowest(reasons: &[Refusal]) -> Result<(), Refusal> {
+    match reasons.iter().min() {
+        Some(refusal) => Err(*refusal),
+        None => Ok(()),
+    }
+}

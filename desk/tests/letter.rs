@@ -1,0 +1,223 @@
+//! The second program's fast engines against the letter: answers, whole
+//! records, memory and logs, on every record that the fast ones can hold.
+
+mod common;
+
+use common::codes;
+use common::tally::{Classes, Tally};
+use desk::generate::{Call, Calls, Origin, Way};
+use desk::second::letter;
+use desk::second::machine::{Refusal, Registers, Status};
+use desk::second::pipeline::{Logs, Pipeline};
+use desk::second::plain::Plain;
+use desk::second::stages::{Accessing, Decoding, Executing, Instruction, Writing};
+use desk::second::table::row_of;
+
+/// How many calls of each engine are compared; unoptimised code gets fewer.
+const CALLS: u64 = if cfg!(debug_assertions) {
+    20_000
+} else {
+    200_000
+};
+
+const RECORDS: [&str; 3] = ["fresh", "reached", "hand-made"];
+const CLASSES: &Classes = &[
+    ("plain record", &RECORDS),
+    ("plain answer", &["0", "1", "3", "4"]),
+    ("pipeline record", &RECORDS),
+    ("pipeline answer", &["0", "1", "3", "4", "5"]),
+];
+
+#[test]
+fn the_fast_engines_are_the_letters_equal() {
+    let mut calls = Calls::new(0x1e77e4);
+    let mut tally = Tally::default();
+    for number in 0..CALLS {
+        let (origin, call) = calls.call(Way::Logged);
+        let answer = compare_plain(call, number);
+        count(&mut tally, ["plain record", "plain answer"], origin, answer);
+        let (origin, mut call) = calls.call(Way::Logged);
+        fit(&mut call.record);
+        let answer = compare_pipelined(call, number);
+        count(
+            &mut tally,
+            ["pipeline record", "pipeline answer"],
+            origin,
+            answer,
+        );
+    }
+    println!("compared {CALLS} calls of each engine");
+    println!("{}", tally.table(CLASSES));
+    tally.check(CLASSES, 1);
+}
+
+fn count(
+    tally: &mut Tally,
+    [record, answers]: [&'static str; 2],
+    origin: Origin,
+    answer: Result<(), Refusal>,
+) {
+    const NUMBERS: [&str; 6] = ["0", "1", "2", "3", "4", "5"];
+    tally.count(record, RECORDS[origin as usize]);
+    let number = answer.map_or_else(Refusal::number, |()| 0);
+    tally.count(answers, NUMBERS[number as usize]);
+}
+
+fn compare_plain(mut call: Call<letter::Machine>, number: u64) -> Result<(), Refusal> {
+    let (mut memory, mut log) = (call.memory.clone(), call.logs[0].clone());
+    let mut fast = plain(&call.record);
+    let answer = fast.run(&mut memory, call.budget, Some(&mut log));
+    let given = call.record;
+    let expected = call
+        .record
+        .run(&mut call.memory, call.budget, &mut call.logs[0]);
+    assert_eq!(answer, expected, "call {number}: {given:?}");
+    assert_eq!(fast, plain(&call.record), "call {number}: {given:?}");
+    assert!(
+        memory == call.memory && log == call.logs[0],
+        "call {number}"
+    );
+    answer
+}
+
+fn compare_pipelined(mut call: Call<letter::Pipeline>, number: u64) -> Result<(), Refusal> {
+    let (mut memory, mut lent) = (call.memory.clone(), call.logs.clone());
+    let mut fast = packed(&call.record);
+    let answer = fast.run(&mut memory, call.budget, Some(logs(&mut lent)));
+    let given = call.record;
+    let expected = call
+        .record
+        .run(&mut call.memory, call.budget, logs(&mut call.logs));
+    assert_eq!(answer, expected, "call {number}: {given:?}");
+    assert_eq!(fast, packed(&call.record), "call {number}: {given:?}");
+    assert!(memory == call.memory && lent == call.logs, "call {number}");
+    answer
+}
+
+fn logs(lent: &mut [Vec<u64>]) -> Logs<'_> {
+    let [addresses, cycles] = lent else {
+        panic!("two logs are lent");
+    };
+    Logs { addresses, cycles }
+}
+
+/// The machine record of the fast engine.
+fn plain(record: &letter::Machine) -> Plain {
+    Plain {
+        registers: record.registers,
+        codes: record.codes,
+        address: record.address,
+        status: record.status,
+        last: record.last,
+        count: record.count,
+    }
+}
+
+/// Changes a record so that the fast engine can hold it: an instruction's next
+/// address is what its code gives, a register number that plays no part is not
+/// over 15, and the status in W is that of the fetch, or ADR.
+fn fit(record: &mut letter::Pipeline) {
+    let held = [
+        record.d.as_mut(),
+        record.e.as_mut().map(|e| &mut e.instruction),
+        record.m.as_mut().map(|m| &mut m.instruction),
+        record.w.as_mut().map(|w| &mut w.instruction),
+        record.kept.as_mut().map(|kept| &mut kept.instruction),
+    ];
+    for instruction in held.into_iter().flatten() {
+        let length = u64::from(row_of(instruction.code).length);
+        instruction.next = instruction.address.wrapping_add(length);
+        instruction.ra &= 15;
+        instruction.rb &= 15;
+    }
+    if let Some(w) = &mut record.w {
+        if w.status != w.instruction.status {
+            w.status = Status::Adr;
+        }
+    }
+}
+
+/// The record of the fast engine.
+fn packed(record: &letter::Pipeline) -> Pipeline {
+    Pipeline {
+        predicted: record.predicted,
+        d: record.d.map(|d| Decoding {
+            instruction: undecided(&d),
+            constant: d.constant,
+        }),
+        e: record.e.map(|e| Executing {
+            instruction: undecided(&e.instruction),
+            constant: e.instruction.constant,
+            a: e.a,
+            b: e.b,
+        }),
+        m: record.m.map(|m| Accessing {
+            instruction: undecided(&m.instruction).decided(m.holds),
+            result: m.result,
+            a: m.a,
+        }),
+        w: record.w.map(|w| Writing {
+            instruction: written(&w),
+            result: w.result,
+            loaded: w.word,
+        }),
+        registers: record.registers,
+        codes: record.codes,
+        status: record.status,
+        last: record.last,
+        retired: record.retired,
+        cycles: record.cycles,
+        kinds: record.kinds,
+        kept: record
+            .kept
+            .map(|kept| undecided(&kept.instruction).decided(kept.holds)),
+    }
+}
+
+fn undecided(held: &letter::Instruction) -> Instruction {
+    let code = (held.code, held.function);
+    Instruction::new(held.address, code, (held.ra, held.rb), held.status)
+}
+
+fn written(w: &letter::Accessed) -> Instruction {
+    let decided = undecided(&w.instruction).decided(w.holds);
+    match w.status == w.instruction.status {
+        true => decided,
+        false => decided.outside(),
+    }
+}
+
+/// An irmovq with a false condition in W writes; a false cmov does not.
+#[test]
+fn only_a_false_cmov_loses_its_target() {
+    for (code, written) in [(3, 9), (2, 0)] {
+        let mut machine = Pipeline::fresh(Registers::default(), codes(0), 0);
+        let instruction = Instruction::new(5, (code, 1), (0, 1), Status::Aok).decided(false);
+        machine.w = Some(Writing {
+            instruction,
+            result: 9,
+            loaded: 0,
+        });
+        machine.cycles = 5;
+        machine.clock(&mut [0x10]).expect("a clock");
+        assert_eq!((machine.registers.0[1], machine.last), (written, 5));
+    }
+}
+
+/// A kept unconditional jump with a false condition charges nothing.
+#[test]
+fn a_kept_unconditional_jump_charges_nothing() {
+    for (function, charged) in [(0, 0), (1, 2)] {
+        let mut machine = Pipeline::fresh(Registers::default(), codes(0), 0);
+        let jump = Instruction::new(5, (7, function), (15, 15), Status::Aok);
+        machine.kept = Some(jump.decided(false));
+        machine.w = Some(Writing {
+            instruction: Instruction::new(6, (1, 0), (15, 15), Status::Aok),
+            result: 0,
+            loaded: 0,
+        });
+        machine.cycles = 5;
+        machine.clock(&mut [0x10]).expect("a clock");
+        assert_eq!(machine.kinds.mispredict, charged);
+    }
+}

@@ -1,0 +1,206 @@
+//! Whole records in blocks of words, as the head of crates/trial/src/lib.rt
+//! lays them out.
+
+use desk::second::arithmetic::Codes;
+use desk::second::letter::{Accessed, Decoded, Executed, Instruction, Machine, Pipeline, Retired};
+use desk::second::machine::{Registers, Status};
+use desk::second::pipeline::Kinds;
+
+/// Words in an instruction's part, and in a state part.
+pub const INSTRUCTION: usize = 9;
+const STATE: usize = 20;
+
+/// The places of a pipeline block.
+const D: usize = 1;
+const E: usize = 10;
+const M: usize = 21;
+const W: usize = 33;
+const PIPELINE_STATE: usize = 46;
+const COUNTS: usize = 66;
+const KEPT: usize = 71;
+
+/// A record that a block can hold.
+pub trait Block: Sized {
+    fn words(&self) -> Vec<u64>;
+
+    /// The record in a block. A word that no record can have is a fault.
+    fn from_words(words: &[u64]) -> Self;
+}
+
+impl Block for Machine {
+    fn words(&self) -> Vec<u64> {
+        let mut words = state(&self.registers, self.codes, self.status, self.last);
+        words.extend([self.address, self.count]);
+        words
+    }
+
+    fn from_words(words: &[u64]) -> Machine {
+        Machine {
+            registers: registers(words),
+            codes: codes(words),
+            address: words[STATE],
+            status: status(words[18]),
+            last: words[19],
+            count: words[STATE + 1],
+        }
+    }
+}
+
+impl Block for Pipeline {
+    fn words(&self) -> Vec<u64> {
+        let mut words = vec![0; KEPT + INSTRUCTION + 1];
+        words[0] = self.predicted;
+        let state = state(&self.registers, self.codes, self.status, self.last);
+        words[PIPELINE_STATE..][..STATE].copy_from_slice(&state);
+        words[COUNTS] = self.retired;
+        words[COUNTS + 1] = self.cycles;
+        words[COUNTS + 2] = self.kinds.load_use;
+        words[COUNTS + 3] = self.kinds.mispredict;
+        words[COUNTS + 4] = self.kinds.returns;
+        let holds = u64::from;
+        if let Some(d) = self.d {
+            put(&mut words[D..], &d, &[]);
+        }
+        if let Some(e) = self.e {
+            put(&mut words[E..], &e.instruction, &[e.a, e.b]);
+        }
+        if let Some(m) = self.m {
+            put(
+                &mut words[M..],
+                &m.instruction,
+                &[m.a, m.result, holds(m.holds)],
+            );
+        }
+        if let Some(w) = self.w {
+            let own = [w.result, holds(w.holds), w.word, w.status.number()];
+            put(&mut words[W..], &w.instruction, &own);
+        }
+        if let Some(kept) = self.kept {
+            put(&mut words[KEPT..], &kept.instruction, &[holds(kept.holds)]);
+        }
+        words
+    }
+
+    fn from_words(words: &[u64]) -> Pipeline {
+        let state = &words[PIPELINE_STATE..];
+        Pipeline {
+            predicted: words[0],
+            d: instruction(&words[D..]),
+            e: e_from(&words[E..]),
+            m: m_from(&words[M..]),
+            w: w_from(&words[W..]),
+            registers: registers(state),
+            codes: codes(state),
+            status: status(state[18]),
+            last: state[19],
+            retired: words[COUNTS],
+            cycles: words[COUNTS + 1],
+            kinds: Kinds {
+                load_use: words[COUNTS + 2],
+                mispredict: words[COUNTS + 3],
+                returns: words[COUNTS + 4],
+            },
+            kept: kept_from(&words[KEPT..]),
+        }
+    }
+}
+
+/// The words of a state part.
+fn state(registers: &Registers, codes: Codes, status: Status, last: u64) -> Vec<u64> {
+    let mut words = registers.0.to_vec();
+    words.extend([codes.zero(), codes.sign(), codes.overflow()].map(u64::from));
+    words.extend([status.number(), last]);
+    words
+}
+
+/// An instruction into its part, and what the stage adds behind it.
+fn put(part: &mut [u64], instruction: &Instruction, own: &[u64]) {
+    let words = [
+        1,
+        instruction.address,
+        instruction.status.number(),
+        u64::from(instruction.code),
+        u64::from(instruction.function),
+        u64::from(instruction.ra),
+        u64::from(instruction.rb),
+        instruction.constant,
+        instruction.next,
+    ];
+    part[..INSTRUCTION].copy_from_slice(&words);
+    part[INSTRUCTION..][..own.len()].copy_from_slice(own);
+}
+
+/// The instruction of a part, or none.
+pub fn instruction(part: &[u64]) -> Option<Instruction> {
+    truth(part[0]).then(|| Instruction {
+        address: part[1],
+        status: status(part[2]),
+        code: byte(part[3]),
+        function: byte(part[4]),
+        ra: byte(part[5]),
+        rb: byte(part[6]),
+        constant: part[7],
+        next: part[8],
+    })
+}
+
+fn e_from(part: &[u64]) -> Option<Decoded> {
+    instruction(part).map(|instruction| Decoded {
+        instruction,
+        a: part[9],
+        b: part[10],
+    })
+}
+
+fn m_from(part: &[u64]) -> Option<Executed> {
+    instruction(part).map(|instruction| Executed {
+        instruction,
+        a: part[9],
+        result: part[10],
+        holds: truth(part[11]),
+    })
+}
+
+fn w_from(part: &[u64]) -> Option<Accessed> {
+    instruction(part).map(|instruction| Accessed {
+        instruction,
+        result: part[9],
+        holds: truth(part[10]),
+        word: part[11],
+        status: status(part[12]),
+    })
+}
+
+fn kept_from(part: &[u64]) -> Option<Retired> {
+    instruction(part).map(|instruction| Retired {
+        instruction,
+        holds: truth(part[9]),
+    })
+}
+
+fn registers(state: &[u64]) -> Registers {
+    Registers(state[..15].try_into().expect("fifteen words"))
+}
+
+fn codes(state: &[u64]) -> Codes {
+    Codes::new(truth(state[15]), truth(state[16]), truth(state[17]))
+}
+
+fn status(word: u64) -> Status {
+    match word {
+        1 => Status::Aok,
+        2 => Status::Hlt,
+        3 => Status::Adr,
+        4 => Status::Ins,
+        _ => panic!("{word} is no status"),
+    }
+}
+
+fn byte(word: u64) -> u8 {
+    u8::try_from(word).expect("a byte")
+}
+
+fn truth(word: u64) -> bool {
+    assert!(word < 2, "{word} is neither true nor false");
+    word == 1
+}

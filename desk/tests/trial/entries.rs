@@ -1,0 +1,246 @@
+//! The entries of both engines: each as the product has it, with C linkage,
+//! and as the letter has it.
+
+use crate::blocks::{instruction, Block, INSTRUCTION};
+use desk::generate::{Call, Record, Way};
+use desk::second::letter::{Instruction, Machine, Pipeline};
+use desk::second::machine::Refusal;
+use desk::second::pipeline::Logs;
+
+// Nothing checks these declarations against the Rattle source: they are
+// written after crates/trial/src/lib.rt by hand, and the two change together.
+// A slice passes as its pointer and then its length. `rt staticlib trial`
+// builds the archive, which desk/check does; only this test links it.
+#[link(name = "trial", kind = "static")]
+extern "C" {
+    fn trial_fetch(memory: *mut u8, bytes: usize, address: u64, block: *mut u64, words: usize);
+    fn trial_plain_start(block: *mut u64, words: usize, address: u64);
+    fn trial_plain_step(block: *mut u64, words: usize, memory: *mut u8, bytes: usize) -> u64;
+    fn trial_plain_run(
+        block: *mut u64,
+        words: usize,
+        memory: *mut u8,
+        bytes: usize,
+        budget: u64,
+        log: *mut u64,
+        log_length: usize,
+    ) -> u64;
+    fn trial_pipe_start(block: *mut u64, words: usize, address: u64);
+    fn trial_pipe_clock(block: *mut u64, words: usize, memory: *mut u8, bytes: usize) -> u64;
+    fn trial_pipe_run_unlogged(
+        block: *mut u64,
+        words: usize,
+        memory: *mut u8,
+        bytes: usize,
+        budget: u64,
+    ) -> u64;
+    fn trial_pipe_run(
+        block: *mut u64,
+        words: usize,
+        memory: *mut u8,
+        bytes: usize,
+        budget: u64,
+        addresses: *mut u64,
+        addresses_length: usize,
+        cycles: *mut u64,
+        cycles_length: usize,
+    ) -> u64;
+}
+
+/// One entry of an engine. The two functions take a call, leave in it what the
+/// entry left, and answer 0 or the number of the refusal.
+pub struct Entry<R> {
+    pub name: &'static str,
+    pub way: Way,
+    pub product: fn(&mut Call<R>) -> u64,
+    pub letter: fn(&mut Call<R>) -> u64,
+}
+
+pub const PLAIN_RUN: Entry<Machine> = Entry {
+    name: "plain::run",
+    way: Way::Logged,
+    product: plain_run,
+    letter: |call| {
+        let (memory, log) = (&mut call.memory, &mut call.logs[0]);
+        number(call.record.run(memory, call.budget, log))
+    },
+};
+
+pub const PLAIN_STEP: Entry<Machine> = Entry {
+    name: "plain::step",
+    way: Way::Single,
+    product: plain_step,
+    letter: |call| number(call.record.step(&mut call.memory)),
+};
+
+pub const PIPE_RUN: Entry<Pipeline> = Entry {
+    name: "pipe::run",
+    way: Way::Logged,
+    product: pipe_run,
+    letter: |call| {
+        let [addresses, cycles] = two(&mut call.logs);
+        let logs = Logs { addresses, cycles };
+        number(call.record.run(&mut call.memory, call.budget, logs))
+    },
+};
+
+pub const PIPE_RUN_UNLOGGED: Entry<Pipeline> = Entry {
+    name: "pipe::run_unlogged",
+    way: Way::Unlogged,
+    product: pipe_run_unlogged,
+    letter: |call| number(call.record.run_unlogged(&mut call.memory, call.budget)),
+};
+
+pub const PIPE_CLOCK: Entry<Pipeline> = Entry {
+    name: "pipe::clock",
+    way: Way::Single,
+    product: pipe_clock,
+    letter: |call| number(call.record.clock(&mut call.memory)),
+};
+
+/// A record of an engine that can be called.
+pub trait Engine: Record + Block {
+    /// Every refusal that applies to a call, by the letter.
+    fn reasons(&self, call: &Call<Self>) -> Vec<Refusal>;
+
+    /// A fresh start with this record's registers and codes, by the product
+    /// and by the letter. The product writes it over this record's block, so
+    /// that a word left over shows.
+    fn starts(&self, start: u64) -> [Self; 2];
+}
+
+impl Engine for Machine {
+    fn reasons(&self, call: &Call<Machine>) -> Vec<Refusal> {
+        let logs: Vec<&[u64]> = call.logs.iter().map(Vec::as_slice).collect();
+        Machine::reasons(self, &call.memory, call.budget, &logs)
+    }
+
+    fn starts(&self, start: u64) -> [Machine; 2] {
+        let mut product = *self;
+        in_block(&mut product, |block| unsafe {
+            trial_plain_start(block.as_mut_ptr(), block.len(), start)
+        });
+        [product, Machine::fresh(self.registers, self.codes, start)]
+    }
+}
+
+impl Engine for Pipeline {
+    fn reasons(&self, call: &Call<Pipeline>) -> Vec<Refusal> {
+        let logs: Vec<&[u64]> = call.logs.iter().map(Vec::as_slice).collect();
+        Pipeline::reasons(self, &call.memory, call.budget, &logs)
+    }
+
+    fn starts(&self, start: u64) -> [Pipeline; 2] {
+        let mut product = *self;
+        in_block(&mut product, |block| unsafe {
+            trial_pipe_start(block.as_mut_ptr(), block.len(), start)
+        });
+        [product, Pipeline::fresh(self.registers, self.codes, start)]
+    }
+}
+
+/// The two logs of a pipelined call.
+fn two(logs: &mut [Vec<u64>]) -> &mut [Vec<u64>; 2] {
+    logs.try_into().expect("two logs are lent")
+}
+
+fn number(answer: Result<(), Refusal>) -> u64 {
+    answer.map_or_else(Refusal::number, |()| 0)
+}
+
+/// Hands a record over as a block, and takes back what the block then holds.
+fn in_block<R: Block, A>(record: &mut R, call: impl FnOnce(&mut [u64]) -> A) -> A {
+    let mut block = record.words();
+    let answer = call(&mut block);
+    *record = R::from_words(&block);
+    answer
+}
+
+// SAFETY, of all that follow: each pointer and length come from one vector
+// that is borrowed for the length of the call, and no two of them overlap. The
+// entries are proved to stay inside them, and ask nothing else of a caller.
+
+fn plain_step(call: &mut Call<Machine>) -> u64 {
+    let memory = &mut call.memory;
+    in_block(&mut call.record, |block| unsafe {
+        trial_plain_step(
+            block.as_mut_ptr(),
+            block.len(),
+            memory.as_mut_ptr(),
+            memory.len(),
+        )
+    })
+}
+
+fn plain_run(call: &mut Call<Machine>) -> u64 {
+    let (memory, log) = (&mut call.memory, &mut call.logs[0]);
+    in_block(&mut call.record, |block| unsafe {
+        trial_plain_run(
+            block.as_mut_ptr(),
+            block.len(),
+            memory.as_mut_ptr(),
+            memory.len(),
+            call.budget,
+            log.as_mut_ptr(),
+            log.len(),
+        )
+    })
+}
+
+fn pipe_clock(call: &mut Call<Pipeline>) -> u64 {
+    let memory = &mut call.memory;
+    in_block(&mut call.record, |block| unsafe {
+        trial_pipe_clock(
+            block.as_mut_ptr(),
+            block.len(),
+            memory.as_mut_ptr(),
+            memory.len(),
+        )
+    })
+}
+
+fn pipe_run_unlogged(call: &mut Call<Pipeline>) -> u64 {
+    let memory = &mut call.memory;
+    in_block(&mut call.record, |block| unsafe {
+        trial_pipe_run_unlogged(
+            block.as_mut_ptr(),
+            block.len(),
+            memory.as_mut_ptr(),
+            memory.len(),
+            call.budget,
+        )
+    })
+}
+
+fn pipe_run(call: &mut Call<Pipeline>) -> u64 {
+    let memory = &mut call.memory;
+    let [addresses, cycles] = two(&mut call.logs);
+    in_block(&mut call.record, |block| unsafe {
+        trial_pipe_run(
+            block.as_mut_ptr(),
+            block.len(),
+            memory.as_mut_ptr(),
+            memory.len(),
+            call.budget,
+            addresses.as_mut_ptr(),
+            addresses.len(),
+            cycles.as_mut_ptr(),
+            cycles.len(),
+        )
+    })
+}
+
+/// What the product fetches.
+pub fn fetch(memory: &mut [u8], address: u64) -> Instruction {
+    let mut block = [0; INSTRUCTION];
+    unsafe {
+        trial_fetch(
+            memory.as_mut_ptr(),
+            memory.len(),
+            address,
+            block.as_mut_ptr(),
+            block.len(),
+        );
+    }
+    instruction(&block).expect("an instruction")
+}

@@ -1,0 +1,76 @@
+//! Fetching by the product and by the letter, on memory of any size and at any
+//! address.
+
+use crate::common::tally::{Classes, Tally};
+use crate::entries::fetch;
+use desk::generate::Calls;
+use desk::second::letter;
+use desk::second::machine::MEMORY_LIMIT;
+use desk::second::Status;
+
+const CLASSES: &Classes = &[
+    (
+        "fetched",
+        &[
+            "nop", "cmovXX", "irmovq", "rmmovq", "mrmovq", "OPq", "jXX", "call", "ret", "pushq",
+            "popq", "HLT", "ADR", "INS",
+        ],
+    ),
+    ("memory", &["empty", "1 to 4096", "over 4096"]),
+    (
+        "address",
+        &[
+            "inside",
+            "in the last ten bytes",
+            "outside",
+            "next address wraps",
+        ],
+    ),
+];
+
+#[test]
+fn fetching_is_the_letters_equal() {
+    let number = if cfg!(debug_assertions) {
+        20_000
+    } else {
+        200_000
+    };
+    let mut calls = Calls::new(0xfe7c);
+    let mut tally = Tally::default();
+    for turn in 0..number {
+        let (mut memory, address) = calls.fetch();
+        let given = memory.clone();
+        let product = fetch(&mut memory, address);
+        let expected = letter::fetch(&given, address);
+        assert_eq!(product, expected, "call {turn}");
+        assert!(memory == given, "call {turn}: fetching has written");
+        count(&mut tally, &given, &expected);
+    }
+    println!("compared {number} fetches");
+    println!("{}", tally.table(CLASSES));
+    tally.check(CLASSES, 1);
+}
+
+fn count(tally: &mut Tally, memory: &[u8], fetched: &letter::Instruction) {
+    let names = CLASSES[0].1;
+    let name = match fetched.status {
+        Status::Aok => names[usize::from(fetched.code) - 1],
+        status => status.name(),
+    };
+    tally.count("fetched", name);
+    let size = memory.len();
+    let name = match size {
+        0 => "empty",
+        1..=MEMORY_LIMIT => "1 to 4096",
+        _ => "over 4096",
+    };
+    tally.count("memory", name);
+    let (size, address) = (size as u64, fetched.address);
+    let name = match address {
+        _ if address > u64::MAX - 10 => "next address wraps",
+        _ if address >= size => "outside",
+        _ if address + 10 >= size => "in the last ten bytes",
+        _ => "inside",
+    };
+    tally.count("address", name);
+}
