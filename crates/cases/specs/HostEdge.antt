@@ -41,27 +41,30 @@ refuses s n m r b c y = numbers s (edgeRefusal m r b c y ∷ []) (n ∷ [])
 unfoldable pub rowsOfEdge : List Row
 rowsOfEdge =
     -- "Result words: status (AOK if the budget was spent), last address, codes, retired, cycles."
-    replays "Result words at a stop" 3 3 0x10_10_00 1 3 50 ((answer, 0) ∷ (result 0, 2) ∷ (result 1, 2) ∷ (result 2, 3) ∷ (result 3, 2) ∷ (result 4, 6) ∷ [])
-    ∷ replays "AOK if the budget was spent" 3 3 0x10_10_00 1 3 5 ((answer, 0) ∷ (result 0, 1) ∷ (result 1, 1) ∷ (result 2, 3) ∷ (result 3, 1) ∷ (result 4, 5) ∷ [])
-    ∷ replays "last address: the start, before any retired" 3 3 0x10_10_00 1 3 4 ((result 0, 1) ∷ (result 1, 1) ∷ (result 3, 0) ∷ (result 4, 4) ∷ [])
+    replays "R15.3 Result words at a stop" 3 3 0x10_10_00 1 3 50
+    ((answer, 0) ∷ (result 0, 2) ∷ (result 1, 2) ∷ (result 2, 3) ∷ (result 3, 2) ∷ (result 4, 6) ∷ [])
+    ∷ replays "R15.3 AOK if the budget was spent" 3 3 0x10_10_00 1 3 5
+    ((answer, 0) ∷ (result 0, 1) ∷ (result 1, 1) ∷ (result 2, 3) ∷ (result 3, 1) ∷ (result 4, 5) ∷ [])
+    ∷ replays "R11.4 last address: the start, before any retired" 3 3 0x10_10_00 1 3 4 ((result 0, 1) ∷ (result 1, 1) ∷ (result 3, 0) ∷ (result 4, 4) ∷ [])
     -- "leaves the final registers and memory in the lent bytes"
-    ∷ replays "the final registers, each in its place" 12 3 0x20_e0_00 0 4 50 ((register 0, 114) ∷ (register 1, 101) ∷ (register 4, 104) ∷ (register 13, 113) ∷ (register 14, 114) ∷ [])
-    ∷ replays "the final memory" 104 3 0xa0_3f_00 0 4 50 ((register 4, 96) ∷ (word 96, 103) ∷ [])
+    ∷ replays "R15.3 the final registers, each in its place" 12 3 0x20_e0_00 0 4 50
+    ((register 0, 114) ∷ (register 1, 101) ∷ (register 4, 104) ∷ (register 13, 113) ∷ (register 14, 114) ∷ [])
+    ∷ replays "R15.3 the final memory" 104 3 0xa0_3f_00 0 4 50 ((register 4, 96) ∷ (word 96, 103) ∷ [])
     -- "codes as 4ZF + 2SF + OF"
-    ∷ replays "codes: OF" 1 1 0x00 0 1 5 ((result 2, 1) ∷ [])
-    ∷ replays "codes: SF, by which cmovl moves" 3 3 0x22_10_00 0 2 50 ((result 2, 2) ∷ (register 0, 101) ∷ [])
-    ∷ replays "codes: ZF, by which cmove moves" 3 3 0x23_10_00 0 4 50 ((result 2, 4) ∷ (register 0, 101) ∷ [])
+    ∷ replays "R15.1 codes: OF" 1 1 0x00 0 1 5 ((result 2, 1) ∷ [])
+    ∷ replays "R15.1 codes: SF, by which cmovl moves" 3 3 0x22_10_00 0 2 50 ((result 2, 2) ∷ (register 0, 101) ∷ [])
+    ∷ replays "R15.1 codes: ZF, by which cmove moves" 3 3 0x23_10_00 0 4 50 ((result 2, 4) ∷ (register 0, 101) ∷ [])
     -- the refusals, at both ends
-    ∷ refuses "1: N is 0" 1 0 120 40 7 1
-    ∷ refuses "1: N is above 4,096" 1 4097 120 40 7 1
-    ∷ refuses "2: registers not 120 bytes: one less" 2 1 119 40 7 1
-    ∷ refuses "2: registers not 120 bytes: one more" 2 1 121 40 7 1
-    ∷ refuses "3: budget 0" 3 1 120 40 7 0
-    ∷ refuses "3: budget over the limit" 3 1 120 40 7 262146
-    ∷ refuses "4: result block not 40 bytes: one less" 4 1 120 39 7 1
-    ∷ refuses "4: result block not 40 bytes: one more" 4 1 120 41 7 1
-    ∷ refuses "5: codes over 7" 5 1 120 40 8 1
-    ∷ refuses "0: each at its end" 0 4096 120 40 7 262145
+    ∷ refuses "R14.1 1: N is 0" 1 0 120 40 7 1
+    ∷ refuses "R14.1 1: N is above 4,096" 1 4097 120 40 7 1
+    ∷ refuses "R15.2 2: registers not 120 bytes: one less" 2 1 119 40 7 1
+    ∷ refuses "R15.2 2: registers not 120 bytes: one more" 2 1 121 40 7 1
+    ∷ refuses "R15.4 3: budget 0" 3 1 120 40 7 0
+    ∷ refuses "R15.4 3: budget over the limit" 3 1 120 40 7 262146
+    ∷ refuses "R15.2 4: result block not 40 bytes: one less" 4 1 120 39 7 1
+    ∷ refuses "R15.2 4: result block not 40 bytes: one more" 4 1 120 41 7 1
+    ∷ refuses "R14.1 5: codes over 7" 5 1 120 40 8 1
+    ∷ refuses "R14.2 0: each at its end" 0 4096 120 40 7 262145
     ∷ []
 
 -- every row holds: none is failing

@@ -35,6 +35,6 @@ unfolding
     Pipeline.clockBy Pipeline.clock Pipeline.clocks
     Premise.writesByte Premise.hasByte
     Runs.laid Runs.sizeRefused Runs.budgetRefused Runs.logRefused Runs.instructionRefused Runs.refusedInD Runs.refusedInE Runs.refusedInM
-    Runs.refusedInW Runs.refusedKept Runs.countsRefused Runs.recordRefused Runs.lowest Runs.plainRefusal Runs.plainDone Runs.plainBy Runs.plainRun
-    Runs.plainStep Runs.pipeRefusal Runs.pipeDone Runs.pipeBy Runs.pipeRun Runs.pipeRunUnlogged Runs.pipeClock
+    Runs.refusedInW Runs.refusedKept Runs.countsRefused Runs.recordRefused Runs.lowest Runs.fetchAnswer Runs.plainRefusal Runs.plainDone Runs.plainBy
+    Runs.plainRun Runs.plainStep Runs.pipeRefusal Runs.pipeDone Runs.pipeBy Runs.pipeRun Runs.pipeRunUnlogged Runs.pipeClock
 computing = tt

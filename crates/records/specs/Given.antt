@@ -162,8 +162,11 @@ M i a e h k = stages (k .predicted) (k .d) (k .e) (inM (record { instruction = i
 abbrev pub W : Instruction → (result : ℕ) → (holds : Bool) → (word : ℕ) → Status → Change
 W i e h v s k = stages (k .predicted) (k .d) (k .e) (k .m) (inW (record { instruction = i; result = e; holds = h; word = v; status = s })) k
 
+abbrev pub file : Registers → Change
+file r k = values r (k .codes) k
+
 abbrev pub registers : List (ℕ × ℕ) → Change
-registers qs k = values (given qs) (k .codes) k
+registers qs = file (given qs)
 
 abbrev pub codes : ℕ → Change
 codes n k = values (k .registers) (coded n) k

@@ -4,6 +4,7 @@ pub use Rattle.machine.specs.declared.Status.the-variants.{Aok as aok, Hlt as h
 pub use Rattle.machine.specs.declared.Codes.{Codes}
 pub use Rattle.machine.specs.declared.Machine.{Machine}
 pub use Rattle.machine.specs.declared.Instruction.{Instruction}
+pub use Rattle.machine.specs.declared.FetchAnswer.{FetchAnswer}
 pub use Rattle.machine.specs.declared.Decoded.{Decoded}
 pub use Rattle.machine.specs.declared.Executed.{Executed}
 pub use Rattle.machine.specs.declared.Accessed.{Accessed}

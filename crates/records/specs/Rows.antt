@@ -1,4 +1,4 @@
--- THE TABLE HOLDS: document 01's rules, each by a row at least that begins with its words or says what it is.
+-- THE TABLE HOLDS. A row begins with the number of its rule in docs/RULES.md.
 use mathlib.Core.Path.{_≡_, refl}
 use mathlib.Core.List.{[]}
 use Rattle.records.specs.Looks.{failing}

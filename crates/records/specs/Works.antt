@@ -7,8 +7,10 @@ use Rattle.machine.specs.Memory.{Memory}
 use Rattle.machine.specs.Prediction.{asIn01}
 use Rattle.machine.specs.Runs.{pipeRunUnlogged}
 use Rattle.records.specs.Names.{Instruction, Status, aok, hlt, adr, ins}
-use Rattle.records.specs.Given.{Change, image, with, registers, codes, D, E, M, W, nop, cmov, irmovq, rmmovq, mrmovq, operation, jump, call, ret, pushq, popq, fetchedAs}
-use Rattle.records.specs.Looks.{Row, clocked, numbers, register, codesNow, byte, word, e, address, valA, valB, carriedA, result, holds, resultW, loaded, statusW}
+use Rattle.records.specs.Given.{Change, image, with, file, registers, codes, D, E, M, W, nop, cmov, irmovq, rmmovq, mrmovq, operation, jump, call}
+use Rattle.records.specs.Given.{ret, pushq, popq, fetchedAs}
+use Rattle.records.specs.Looks.{Row, clocked, numbers, register, codesNow, byte, word, e, address, valA, valB, carriedA, result, holds}
+use Rattle.records.specs.Looks.{resultW, loaded, statusW}
 
 -- memory in which nothing is fetched but halt
 abbrev halts : Memory
@@ -16,9 +18,7 @@ halts = image 1 1 0x00
 
 -- register q holds 100 + q
 abbrev distinct : Change
-distinct =
-    registers
-    ((0, 100) ∷ (1, 101) ∷ (2, 102) ∷ (3, 103) ∷ (4, 104) ∷ (5, 105) ∷ (6, 106) ∷ (7, 107) ∷ (8, 108) ∷ (9, 109) ∷ (10, 110) ∷ (11, 111) ∷ (12, 112) ∷ (13, 113) ∷ (14, 114) ∷ [])
+distinct = file (100 ∷ 101 ∷ 102 ∷ 103 ∷ 104 ∷ 105 ∷ 106 ∷ 107 ∷ 108 ∷ 109 ∷ 110 ∷ 111 ∷ 112 ∷ 113 ∷ 114 ∷ [])
 
 -- an instruction in D, and the values with which it comes to E
 abbrev decodes : String → Instruction → (a b : ℕ) → Row
@@ -55,97 +55,97 @@ stores s i a r b v t =
 unfoldable pub rowsOfWork : List Row
 rowsOfWork =
     -- "Sources: cmov rA; rmmovq, OPq rA and rB; mrmovq rB; pushq rA and rsp; popq, call, ret rsp; others none."
-    decodes "Sources: cmov rA" (cmov 0 2 3 0) 102 0
-    ∷ decodes "Sources: rmmovq rA and rB" (rmmovq 2 0 3 0) 102 103
-    ∷ decodes "Sources: OPq rA and rB" (operation 0 2 3 0) 102 103
-    ∷ decodes "Sources: mrmovq rB" (mrmovq 0 3 2 0) 0 103
-    ∷ decodes "Sources: pushq rA and rsp" (pushq 2 0) 102 104
-    ∷ decodes "Sources: popq rsp" (popq 2 0) 104 104
-    ∷ decodes "Sources: call rsp" (call 0 0) 0 104
-    ∷ decodes "Sources: ret rsp" (ret 0) 104 104
-    ∷ decodes "Sources: irmovq none" (irmovq 0 3 0) 0 0
-    ∷ decodes "Sources: jXX none" (jump 0 0 0) 0 0
-    ∷ decodes "Sources: nop none" (nop 0) 0 0
-    ∷ decodes "Fifteen registers, 0 to 14" (operation 0 14 0 0) 114 100
-    ∷ decodes "15 means none" (operation 0 15 15 0) 0 0
-    ∷ decodes "An instruction with bad fetch status has no sources" (fetchedAs ins (operation 0 2 3 0)) 0 0
+    decodes "R9.1 Sources: cmov rA" (cmov 0 2 3 0) 102 0
+    ∷ decodes "R9.1 Sources: rmmovq rA and rB" (rmmovq 2 0 3 0) 102 103
+    ∷ decodes "R9.1 Sources: OPq rA and rB" (operation 0 2 3 0) 102 103
+    ∷ decodes "R9.1 Sources: mrmovq rB" (mrmovq 0 3 2 0) 0 103
+    ∷ decodes "R9.1 Sources: pushq rA and rsp" (pushq 2 0) 102 104
+    ∷ decodes "R9.1 Sources: popq rsp" (popq 2 0) 104 104
+    ∷ decodes "R9.1 Sources: call rsp" (call 0 0) 0 104
+    ∷ decodes "R9.1 Sources: ret rsp" (ret 0) 104 104
+    ∷ decodes "R9.1 Sources: irmovq none" (irmovq 0 3 0) 0 0
+    ∷ decodes "R9.1 Sources: jXX none" (jump 0 0 0) 0 0
+    ∷ decodes "R9.1 Sources: nop none" (nop 0) 0 0
+    ∷ decodes "R2.1 Fifteen registers, 0 to 14" (operation 0 14 0 0) 114 100
+    ∷ decodes "R2.1 15 means none" (operation 0 15 15 0) 0 0
+    ∷ decodes "R9.1 An instruction with bad fetch status has no sources" (fetchedAs ins (operation 0 2 3 0)) 0 0
     -- "Decode takes a source from the first match of: result in E, word loaded in M, result in M, word loaded in W, result in W, register file."
-    ∷ takes "result in E before word loaded in M" 3 (E (irmovq 1 3 0) 0 0 ∷ M (mrmovq 0 0 3 0) 0 8 true ∷ W (mrmovq 0 0 3 0) 5 true 4 aok ∷ []) 1
-    ∷ takes "word loaded in M before word loaded in W" 3 (M (mrmovq 0 0 3 0) 0 8 true ∷ W (mrmovq 0 0 3 0) 5 true 4 aok ∷ []) 2
-    ∷ takes "word loaded in M before result in M" 4 (M (popq 4 0) 8 3 true ∷ W (irmovq 5 4 0) 5 true 0 aok ∷ []) 2
-    ∷ takes "result in M before word loaded in W" 3 (M (irmovq 3 3 0) 0 3 true ∷ W (mrmovq 0 0 3 0) 5 true 4 aok ∷ []) 3
-    ∷ takes "result in M, of a popq of another register" 4 (M (popq 3 0) 8 3 true ∷ []) 3
-    ∷ takes "word loaded in W before result in W" 4 (W (popq 4 0) 5 true 4 aok ∷ []) 4
-    ∷ takes "result in W before register file" 3 (W (irmovq 5 3 0) 5 true 0 aok ∷ []) 5
-    ∷ takes "register file" 3 (W (irmovq 5 2 0) 5 true 0 aok ∷ []) 6
-    ∷ takes "result in E, of a popq of another register" 4 (E (popq 2 0) 16 16 ∷ []) 24
+    ∷ takes "R9.2 result in E before word loaded in M" 3 (E (irmovq 1 3 0) 0 0 ∷ M (mrmovq 0 0 3 0) 0 8 true ∷ W (mrmovq 0 0 3 0) 5 true 4 aok ∷ []) 1
+    ∷ takes "R9.2 word loaded in M before word loaded in W" 3 (M (mrmovq 0 0 3 0) 0 8 true ∷ W (mrmovq 0 0 3 0) 5 true 4 aok ∷ []) 2
+    ∷ takes "R9.2 word loaded in M before result in M" 4 (M (popq 4 0) 8 3 true ∷ W (irmovq 5 4 0) 5 true 0 aok ∷ []) 2
+    ∷ takes "R9.2 result in M before word loaded in W" 3 (M (irmovq 3 3 0) 0 3 true ∷ W (mrmovq 0 0 3 0) 5 true 4 aok ∷ []) 3
+    ∷ takes "R9.2 result in M, of a popq of another register" 4 (M (popq 3 0) 8 3 true ∷ []) 3
+    ∷ takes "R9.2 word loaded in W before result in W" 4 (W (popq 4 0) 5 true 4 aok ∷ []) 4
+    ∷ takes "R9.2 result in W before register file" 3 (W (irmovq 5 3 0) 5 true 0 aok ∷ []) 5
+    ∷ takes "R9.2 register file" 3 (W (irmovq 5 2 0) 5 true 0 aok ∷ []) 6
+    ∷ takes "R9.2 result in E, of a popq of another register" 4 (E (popq 2 0) 16 16 ∷ []) 24
     -- "A false cmov has no target, in E or later."
-    ∷ takes "A true cmov has a target, in E" 3 (E (cmov 2 0 3 0) 9 0 ∷ codes 2 ∷ []) 9
-    ∷ takes "A false cmov has no target, in E" 3 (E (cmov 2 0 3 0) 9 0 ∷ codes 0 ∷ []) 6
-    ∷ takes "A true cmov has a target, in M" 3 (M (cmov 2 0 3 0) 9 9 true ∷ []) 9
-    ∷ takes "A false cmov has no target, in M" 3 (M (cmov 2 0 3 0) 9 9 false ∷ []) 6
-    ∷ takes "A true cmov has a target, in W" 3 (W (cmov 2 0 3 0) 9 true 0 aok ∷ []) 9
-    ∷ takes "A false cmov has no target, in W" 3 (W (cmov 2 0 3 0) 9 false 0 aok ∷ []) 6
-    ∷ takes "whatever holds is, an OPq has its target" 3 (M (operation 0 0 3 0) 0 9 false ∷ []) 9
+    ∷ takes "R9.3 A true cmov has a target, in E" 3 (E (cmov 2 0 3 0) 9 0 ∷ codes 2 ∷ []) 9
+    ∷ takes "R9.3 A false cmov has no target, in E" 3 (E (cmov 2 0 3 0) 9 0 ∷ codes 0 ∷ []) 6
+    ∷ takes "R9.3 A true cmov has a target, in M" 3 (M (cmov 2 0 3 0) 9 9 true ∷ []) 9
+    ∷ takes "R9.3 A false cmov has no target, in M" 3 (M (cmov 2 0 3 0) 9 9 false ∷ []) 6
+    ∷ takes "R9.3 A true cmov has a target, in W" 3 (W (cmov 2 0 3 0) 9 true 0 aok ∷ []) 9
+    ∷ takes "R9.3 A false cmov has no target, in W" 3 (W (cmov 2 0 3 0) 9 false 0 aok ∷ []) 6
+    ∷ takes "R14.5 whatever holds is, an OPq has its target" 3 (M (operation 0 0 3 0) 0 9 false ∷ []) 9
     -- "Register 15 as a source reads 0 and matches nothing"
-    ∷ takes "Register 15 matches nothing, in E" 15 (E (irmovq 9 15 0) 0 0 ∷ []) 0
-    ∷ takes "Register 15 matches nothing, in M" 15 (M (mrmovq 0 0 15 0) 0 8 true ∷ []) 0
-    ∷ takes "Register 15 matches nothing, in W" 15 (W (irmovq 9 15 0) 9 true 0 aok ∷ []) 0
+    ∷ takes "R9.4 Register 15 matches nothing, in E" 15 (E (irmovq 9 15 0) 0 0 ∷ []) 0
+    ∷ takes "R9.4 Register 15 matches nothing, in M" 15 (M (mrmovq 0 0 15 0) 0 8 true ∷ []) 0
+    ∷ takes "R9.4 Register 15 matches nothing, in W" 15 (W (irmovq 9 15 0) 9 true 0 aok ∷ []) 0
     -- "OPq: rB becomes rB add, subtract, and, xor rA"; "OF: exactly when the true signed result lies outside -2^63 to 2^63-1; else 0"
-    ∷ operates "add: 2^63-2 and 1 is inside" 0 1 (2 ^ 63 - 2) (2 ^ 63 - 1) 0
-    ∷ operates "add: 2^63-1 and 1 is outside" 0 1 (2 ^ 63 - 1) (2 ^ 63) 3
-    ∷ operates "add: -2^63+1 and -1 is inside" 0 (2 ^ 64 - 1) (2 ^ 63 + 1) (2 ^ 63) 2
-    ∷ operates "add: -2^63 and -1 is outside" 0 (2 ^ 64 - 1) (2 ^ 63) (2 ^ 63 - 1) 1
-    ∷ operates "add: -2^63 and -2^63 is outside, and its result 0" 0 (2 ^ 63) (2 ^ 63) 0 5
-    ∷ operates "add: 1 and -1 wraps to 0 and is inside" 0 1 (2 ^ 64 - 1) 0 4
-    ∷ operates "subtract: -2^63+1 less 1 is inside" 1 1 (2 ^ 63 + 1) (2 ^ 63) 2
-    ∷ operates "subtract: -2^63 less 1 is outside" 1 1 (2 ^ 63) (2 ^ 63 - 1) 1
-    ∷ operates "subtract: 2^63-2 less -1 is inside" 1 (2 ^ 64 - 1) (2 ^ 63 - 2) (2 ^ 63 - 1) 0
-    ∷ operates "subtract: 2^63-1 less -1 is outside" 1 (2 ^ 64 - 1) (2 ^ 63 - 1) (2 ^ 63) 3
-    ∷ operates "subtract: -1 less -2^63 is inside" 1 (2 ^ 63) (2 ^ 64 - 1) (2 ^ 63 - 1) 0
-    ∷ operates "subtract: 0 less -2^63 is outside" 1 (2 ^ 63) 0 (2 ^ 63) 3
-    ∷ operates "subtract: -2^63 less -2^63 is 0" 1 (2 ^ 63) (2 ^ 63) 0 4
-    ∷ operates "subtract is rB minus rA" 1 2 7 5 0
-    ∷ operates "and: OF 0" 2 (2 ^ 63) (2 ^ 63) (2 ^ 63) 2
-    ∷ operates "and: bit by bit" 2 6 3 2 0
-    ∷ operates "xor: OF 0" 3 (2 ^ 63) (2 ^ 63) 0 4
-    ∷ operates "xor: bit by bit" 3 6 3 5 0
+    ∷ operates "R6.4 add: 2^63-2 and 1 is inside" 0 1 (2 ^ 63 - 2) (2 ^ 63 - 1) 0
+    ∷ operates "R6.4 add: 2^63-1 and 1 is outside" 0 1 (2 ^ 63 - 1) (2 ^ 63) 3
+    ∷ operates "R6.4 add: -2^63+1 and -1 is inside" 0 (2 ^ 64 - 1) (2 ^ 63 + 1) (2 ^ 63) 2
+    ∷ operates "R6.4 add: -2^63 and -1 is outside" 0 (2 ^ 64 - 1) (2 ^ 63) (2 ^ 63 - 1) 1
+    ∷ operates "R6.4 add: -2^63 and -2^63 is outside, and its result 0" 0 (2 ^ 63) (2 ^ 63) 0 5
+    ∷ operates "R6.4 add: 1 and -1 wraps to 0 and is inside" 0 1 (2 ^ 64 - 1) 0 4
+    ∷ operates "R6.4 subtract: -2^63+1 less 1 is inside" 1 1 (2 ^ 63 + 1) (2 ^ 63) 2
+    ∷ operates "R6.4 subtract: -2^63 less 1 is outside" 1 1 (2 ^ 63) (2 ^ 63 - 1) 1
+    ∷ operates "R6.4 subtract: 2^63-2 less -1 is inside" 1 (2 ^ 64 - 1) (2 ^ 63 - 2) (2 ^ 63 - 1) 0
+    ∷ operates "R6.4 subtract: 2^63-1 less -1 is outside" 1 (2 ^ 64 - 1) (2 ^ 63 - 1) (2 ^ 63) 3
+    ∷ operates "R6.4 subtract: -1 less -2^63 is inside" 1 (2 ^ 63) (2 ^ 64 - 1) (2 ^ 63 - 1) 0
+    ∷ operates "R6.4 subtract: 0 less -2^63 is outside" 1 (2 ^ 63) 0 (2 ^ 63) 3
+    ∷ operates "R6.4 subtract: -2^63 less -2^63 is 0" 1 (2 ^ 63) (2 ^ 63) 0 4
+    ∷ operates "R6.1 subtract is rB minus rA" 1 2 7 5 0
+    ∷ operates "R6.4 and: OF 0" 2 (2 ^ 63) (2 ^ 63) (2 ^ 63) 2
+    ∷ operates "R6.1 and: bit by bit" 2 6 3 2 0
+    ∷ operates "R6.4 xor: OF 0" 3 (2 ^ 63) (2 ^ 63) 0 4
+    ∷ operates "R6.1 xor: bit by bit" 3 6 3 5 0
     -- "Conditions 0 to 6: always; le (SF≠OF or ZF); l (SF≠OF); e (ZF); ne; ge (SF=OF); g (SF=OF and not ZF)."
-    ∷ conditions "Conditions 0 to 6 on none" 0 (1 ∷ 0 ∷ 0 ∷ 0 ∷ 1 ∷ 1 ∷ 1 ∷ [])
-    ∷ conditions "Conditions 0 to 6 on OF" 1 (1 ∷ 1 ∷ 1 ∷ 0 ∷ 1 ∷ 0 ∷ 0 ∷ [])
-    ∷ conditions "Conditions 0 to 6 on SF" 2 (1 ∷ 1 ∷ 1 ∷ 0 ∷ 1 ∷ 0 ∷ 0 ∷ [])
-    ∷ conditions "Conditions 0 to 6 on SF OF" 3 (1 ∷ 0 ∷ 0 ∷ 0 ∷ 1 ∷ 1 ∷ 1 ∷ [])
-    ∷ conditions "Conditions 0 to 6 on ZF" 4 (1 ∷ 1 ∷ 0 ∷ 1 ∷ 0 ∷ 1 ∷ 0 ∷ [])
-    ∷ conditions "Conditions 0 to 6 on ZF OF" 5 (1 ∷ 1 ∷ 1 ∷ 1 ∷ 0 ∷ 0 ∷ 0 ∷ [])
-    ∷ conditions "Conditions 0 to 6 on ZF SF" 6 (1 ∷ 1 ∷ 1 ∷ 1 ∷ 0 ∷ 0 ∷ 0 ∷ [])
-    ∷ conditions "Conditions 0 to 6 on ZF SF OF" 7 (1 ∷ 1 ∷ 0 ∷ 1 ∷ 0 ∷ 1 ∷ 0 ∷ [])
+    ∷ conditions "R6.5 Conditions 0 to 6 on none" 0 (1 ∷ 0 ∷ 0 ∷ 0 ∷ 1 ∷ 1 ∷ 1 ∷ [])
+    ∷ conditions "R6.5 Conditions 0 to 6 on OF" 1 (1 ∷ 1 ∷ 1 ∷ 0 ∷ 1 ∷ 0 ∷ 0 ∷ [])
+    ∷ conditions "R6.5 Conditions 0 to 6 on SF" 2 (1 ∷ 1 ∷ 1 ∷ 0 ∷ 1 ∷ 0 ∷ 0 ∷ [])
+    ∷ conditions "R6.5 Conditions 0 to 6 on SF OF" 3 (1 ∷ 0 ∷ 0 ∷ 0 ∷ 1 ∷ 1 ∷ 1 ∷ [])
+    ∷ conditions "R6.5 Conditions 0 to 6 on ZF" 4 (1 ∷ 1 ∷ 0 ∷ 1 ∷ 0 ∷ 1 ∷ 0 ∷ [])
+    ∷ conditions "R6.5 Conditions 0 to 6 on ZF OF" 5 (1 ∷ 1 ∷ 1 ∷ 1 ∷ 0 ∷ 0 ∷ 0 ∷ [])
+    ∷ conditions "R6.5 Conditions 0 to 6 on ZF SF" 6 (1 ∷ 1 ∷ 1 ∷ 1 ∷ 0 ∷ 0 ∷ 0 ∷ [])
+    ∷ conditions "R6.5 Conditions 0 to 6 on ZF SF OF" 7 (1 ∷ 1 ∷ 0 ∷ 1 ∷ 0 ∷ 1 ∷ 0 ∷ [])
     -- results; "Only OPq sets codes."; "Address and data sums wrap at 2^64."
-    ∷ executes "cmov: rA" (cmov 0 0 1 0) 7 5 7
-    ∷ executes "irmovq: C" (irmovq 9 1 0) 7 5 9
-    ∷ executes "rmmovq: rB + C" (rmmovq 0 9 1 0) 7 5 14
-    ∷ executes "mrmovq: rB + C wraps" (mrmovq 2 1 0 0) 7 (2 ^ 64 - 1) 1
-    ∷ executes "pushq: rsp - 8" (pushq 0 0) 7 24 16
-    ∷ executes "call: rsp - 8 wraps" (call 9 0) 7 0 (2 ^ 64 - 8)
-    ∷ executes "popq: rsp + 8" (popq 0 0) 24 24 32
-    ∷ executes "ret: rsp + 8 wraps" (ret 0) (2 ^ 64 - 8) (2 ^ 64 - 8) 0
-    ∷ executes "nop: nothing" (nop 0) 7 5 0
-    ∷ executes "jXX: nothing" (jump 0 9 0) 7 5 0
+    ∷ executes "R5.2 cmov: rA" (cmov 0 0 1 0) 7 5 7
+    ∷ executes "R5.2 irmovq: C" (irmovq 9 1 0) 7 5 9
+    ∷ executes "R5.2 rmmovq: rB + C" (rmmovq 0 9 1 0) 7 5 14
+    ∷ executes "R2.5 mrmovq: rB + C wraps" (mrmovq 2 1 0 0) 7 (2 ^ 64 - 1) 1
+    ∷ executes "R5.2 pushq: rsp - 8" (pushq 0 0) 7 24 16
+    ∷ executes "R2.5 call: rsp - 8 wraps" (call 9 0) 7 0 (2 ^ 64 - 8)
+    ∷ executes "R5.2 popq: rsp + 8" (popq 0 0) 24 24 32
+    ∷ executes "R2.5 ret: rsp + 8 wraps" (ret 0) (2 ^ 64 - 8) (2 ^ 64 - 8) 0
+    ∷ executes "R5.6 nop: nothing" (nop 0) 7 5 0
+    ∷ executes "R5.6 jXX: nothing" (jump 0 9 0) 7 5 0
     -- accesses: "A word at address a is inside exactly when a + 7, without wrapping, is below N; otherwise ADR."
-    ∷ loads "mrmovq loads from rB + C: 8 bytes, least first" (mrmovq 0 1 0 0) 0 8 0x0807060504030201 1
-    ∷ loads "popq loads the word at the old rsp" (popq 0 0) 8 16 0x0807060504030201 1
-    ∷ loads "ret loads the word at the old rsp" (ret 0) 8 16 0x0807060504030201 1
-    ∷ loads "A load outside memory reads 0, and is ADR" (mrmovq 0 1 0 0) 0 9 0 3
-    ∷ loads "without wrapping" (mrmovq 0 1 0 0) 0 (2 ^ 64 - 1) 0 3
-    ∷ loads "a popq outside is ADR" (popq 0 0) 9 17 0 3
-    ∷ loads "a ret outside is ADR" (ret 0) 9 17 0 3
-    ∷ loads "no access, no ADR" (operation 0 0 1 0) 9 99 0 1
-    ∷ loads "a bad status of the fetch stays" (fetchedAs hlt (nop 0)) 0 99 0 2
-    ∷ loads "an access outside is ADR, whatever the status was" (fetchedAs hlt (mrmovq 0 1 0 0)) 0 9 0 3
-    ∷ stores "rmmovq stores rA: 8 bytes, least first" (rmmovq 0 0 1 0) 0x1122334455667788 8 0 0x1122334455667788 1
-    ∷ stores "pushq stores rA at rsp - 8" (pushq 0 0) 7 8 0 7 1
-    ∷ stores "call stores the next address" (call 40 3) 7 8 0 12 1
-    ∷ stores "a store outside writes nothing, and is ADR" (rmmovq 0 0 1 0) 0x1122334455667788 9 0 0x0807060504030201 3
-    ∷ stores "a store outside writes nothing, without wrapping" (pushq 0 0) 0x1122334455667788 (2 ^ 64 - 8) 0 0x0807060504030201 3
-    ∷ stores "a store with a bad status of its fetch writes" (fetchedAs ins (rmmovq 0 0 1 0)) 7 8 0 7 4
-    ∷ stores "a store goes to its own eight bytes" (rmmovq 0 0 1 0) (2 ^ 64 - 1) 7 255 0x08ffffffffffffff 1
+    ∷ loads "R2.4 mrmovq loads from rB + C: 8 bytes, least first" (mrmovq 0 1 0 0) 0 8 0x0807060504030201 1
+    ∷ loads "R5.2 popq loads the word at the old rsp" (popq 0 0) 8 16 0x0807060504030201 1
+    ∷ loads "R5.2 ret loads the word at the old rsp" (ret 0) 8 16 0x0807060504030201 1
+    ∷ loads "R5.5 A load outside memory reads 0, and is ADR" (mrmovq 0 1 0 0) 0 9 0 3
+    ∷ loads "R2.6 without wrapping" (mrmovq 0 1 0 0) 0 (2 ^ 64 - 1) 0 3
+    ∷ loads "R5.5 a popq outside is ADR" (popq 0 0) 9 17 0 3
+    ∷ loads "R5.5 a ret outside is ADR" (ret 0) 9 17 0 3
+    ∷ loads "R5.5 no access, no ADR" (operation 0 0 1 0) 9 99 0 1
+    ∷ loads "R8.2 a bad status of the fetch stays" (fetchedAs hlt (nop 0)) 0 99 0 2
+    ∷ loads "R14.5 an access outside is ADR, whatever the status was" (fetchedAs hlt (mrmovq 0 1 0 0)) 0 9 0 3
+    ∷ stores "R2.4 rmmovq stores rA: 8 bytes, least first" (rmmovq 0 0 1 0) 0x1122334455667788 8 0 0x1122334455667788 1
+    ∷ stores "R5.3 pushq stores rA at rsp - 8" (pushq 0 0) 7 8 0 7 1
+    ∷ stores "R5.3 call stores the next address" (call 40 3) 7 8 0 12 1
+    ∷ stores "R5.5 a store outside writes nothing, and is ADR" (rmmovq 0 0 1 0) 0x1122334455667788 9 0 0x0807060504030201 3
+    ∷ stores "R5.5 a store outside writes nothing, without wrapping" (pushq 0 0) 0x1122334455667788 (2 ^ 64 - 8) 0 0x0807060504030201 3
+    ∷ stores "R14.5 a store with a bad status of its fetch writes" (fetchedAs ins (rmmovq 0 0 1 0)) 7 8 0 7 4
+    ∷ stores "R2.4 a store goes to its own eight bytes" (rmmovq 0 0 1 0) (2 ^ 64 - 1) 7 255 0x08ffffffffffffff 1
     ∷ []
