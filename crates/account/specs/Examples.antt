@@ -6,7 +6,7 @@ use mathlib.Core.Path.{_≡_, refl, ap, sym, _∙_}
 use native.Mathlib.Omega.{arith}
 use lib.ListN.{length, getD, replicate}
 use Rattle.account.specs.Names.{Status, aok, hlt, adr, ins, Codes, Kinds}
-use Rattle.machine.specs.Types.{statusNumber, isBad}
+use Rattle.machine.specs.Types.{statusNumber}
 use Rattle.machine.specs.Memory.{Memory}
 use Rattle.machine.specs.Plain.{Plain, steps}
 use Rattle.machine.specs.Prediction.{Settings, asIn01}

@@ -1,7 +1,7 @@
 -- A clock: the fetch address, the controls, retirement, charges, stops.
-use Prim.Native.Nat.{ℕ, _^_}
+use Prim.Native.Nat.{ℕ}
 use Prim.Native.String.{String}
-use mathlib.Core.Bool.{Bool, true, false}
+use mathlib.Core.Bool.{true, false}
 use mathlib.Core.List.{List, [], _∷_}
 use lib.ListN.{replicate}
 use Rattle.machine.specs.Memory.{Memory}
@@ -10,9 +10,9 @@ use Rattle.machine.specs.Runs.{PipeAnswer, pipeAnswer}
 use Rattle.records.specs.Names.{Instruction, Status, aok, hlt, adr, ins}
 use Rattle.records.specs.Given.{Change, image, given, coded, registers, codes, stopped, counts, keeps, F, D, E, M, W, nop, cmov, irmovq}
 use Rattle.records.specs.Given.{rmmovq, mrmovq, operation, jump, call, ret, pushq, popq, fetchedAs, instruction}
-use Rattle.records.specs.Looks.{Row, Look, answers, clocked, refusal, predicted, register, codesNow, status, last, retired, cycles, loaduse}
-use Rattle.records.specs.Looks.{mispredict, returned, byte, word, d, e, m, w, kept, bubble, address, fetchStatus, code, valA, result, holds}
-use Rattle.records.specs.Looks.{loaded, statusW, keptHeld}
+use Rattle.records.specs.Looks.{Row, answers, clocked, predicted, register, codesNow, status, last, retired, cycles, loaduse}
+use Rattle.records.specs.Looks.{mispredict, returned, byte, d, e, m, w, kept, bubble, address, fetchStatus, code}
+use Rattle.records.specs.Looks.{statusW, keptHeld}
 
 -- sixty nops
 abbrev nops : Memory
@@ -115,6 +115,8 @@ rowsOfClock =
     ∷ clocked "R5.2 popq writes rsp and its register" (W (popq 3 7) 5 true 9 aok ∷ []) nops 1 ((register 4, 5) ∷ (register 3, 9) ∷ [])
     ∷ clocked "R9.3 a false cmov writes nothing, and is kept so" (W (cmov 2 0 3 7) 5 false 0 aok ∷ registers ((3, 6) ∷ []) ∷ []) nops 1
     ((register 3, 6) ∷ (keptHeld, 0) ∷ [])
+    ∷ clocked "R8.2 the condition goes on from M to W" (M (cmov 2 0 3 7) 9 9 false ∷ registers ((3, 6) ∷ []) ∷ []) nops 2
+    ((register 3, 6) ∷ (kept address, 7) ∷ (keptHeld, 0) ∷ [])
     ∷ clocked "R14.5 no other is held back by a false condition" (W (irmovq 5 3 7) 5 false 0 aok ∷ []) nops 1 ((register 3, 5) ∷ [])
     ∷ clocked "R2.1 register 14 as a target" (W (irmovq 5 14 7) 5 true 0 aok ∷ []) nops 1 ((register 14, 5) ∷ [])
     ∷ clocked "R5.2 ret writes rsp" (W (ret 7) 5 true 9 aok ∷ []) nops 1 ((register 4, 5) ∷ [])

@@ -1,20 +1,20 @@
 -- The entries: budgets, logs, refusals, and the plain engine's own books.
 use Prim.Native.Nat.{ℕ, _-_, _^_}
 use Prim.Native.String.{String}
-use mathlib.Core.Bool.{true, false, cond}
+use mathlib.Core.Bool.{true, cond}
 use mathlib.Core.List.{List, [], _∷_}
 use lib.ListN.{replicate}
 use Rattle.machine.specs.Memory.{Memory}
 use Rattle.machine.specs.Prediction.{asIn01}
-use Rattle.machine.specs.Plain.{Plain, plainOf, plainStart}
+use Rattle.machine.specs.Plain.{plainOf, plainStart}
 use Rattle.machine.specs.Premise.{writesByte, hasByte}
-use Rattle.machine.specs.Runs.{PlainAnswer, plainAnswer, plainRun, plainStep, pipeRun, pipeRunUnlogged, pipeClock}
+use Rattle.machine.specs.Runs.{PlainAnswer, plainAnswer, plainStep, pipeRunUnlogged, pipeClock}
 use Rattle.records.specs.Names.{Instruction, Machine, Status, aok, hlt, adr, ins}
-use Rattle.records.specs.Given.{Change, image, given, coded, with, stopped, counts, keeps, D, E, M, W, nop, cmov, irmovq, operation, jump}
+use Rattle.records.specs.Given.{Change, image, given, coded, with, stopped, counts, keeps, D, E, M, W, nop, cmov, operation, jump}
 use Rattle.records.specs.Given.{popq, unknown, fetchedAs, instruction}
 use Rattle.records.specs.Looks.{Row, answers, numbers, ran, performed, refusal, status, last, retired, cycles, predicted, d, address}
 use Rattle.records.specs.Looks.{addressLog, cycleLog, plainRefusal, plainRegister, plainCodes, plainAddress, plainStatus, plainLast}
-use Rattle.records.specs.Looks.{plainCount, plainByte, plainLog}
+use Rattle.records.specs.Looks.{plainCount, plainLog}
 
 -- a log that has 9 everywhere
 abbrev nines : ℕ → List ℕ
@@ -90,6 +90,9 @@ rowsOfEntries =
     ((refusal, 0) ∷ (cycles, 262145) ∷ (predicted, 1) ∷ [])
     ∷ answers "R13.4 A clock is refused as a run is" (pipeClock asIn01 (with (counts 0 262145 0 0 0 ∷ [])) short)
     ((refusal, 3) ∷ (cycles, 262145) ∷ (predicted, 0) ∷ [])
+    ∷ answers "R14.4 a clock can meet 5" (pipeClock asIn01 (with (D (unknown 0) ∷ [])) short) ((refusal, 5) ∷ (cycles, 0) ∷ (d address, 0) ∷ [])
+    ∷ answers "R14.4 a clock can meet 1" (pipeClock asIn01 (with []) []) ((refusal, 1) ∷ (cycles, 0) ∷ [])
+    ∷ answers "R14.4 a step can meet 1" (plainStep (machine 1 aok 0 7) []) ((plainRefusal, 1) ∷ (plainCount, 7) ∷ [])
     -- refusals: each of its own, at both ends
     ∷ refuses "R14.1 1: N is 0" 1 [] [] 1 (nines 1) (nines 1)
     ∷ refuses "R14.1 N is 1" 0 [] (nines 1) 1 (nines 1) (nines 1)

@@ -11,8 +11,8 @@ use Rattle.machine.specs.Memory.{Memory}
 use Rattle.machine.specs.Prediction.{asIn01}
 use Rattle.machine.specs.Runs.{PlainAnswer, PipeAnswer, plainRun, pipeRun, pipeRunUnlogged}
 use Rattle.machine.specs.Computing.{computing}
-use Rattle.records.specs.Names.{Instruction, Decoded, Executed, Accessed, Retired, Machine, StageD, bubbleD, inD, StageE, bubbleE, inE, StageM}
-use Rattle.records.specs.Names.{bubbleM, inM, StageW, bubbleW, inW, Kept, noneKept, lastKept}
+use Rattle.records.specs.Names.{Instruction, Decoded, Executed, Accessed, Retired, Machine, bubbleD, inD, bubbleE, inE}
+use Rattle.records.specs.Names.{bubbleM, inM, bubbleW, inW, noneKept, lastKept}
 use Rattle.records.specs.Given.{Change, with}
 
 -- a place of an answer, and the number that it must have
@@ -176,9 +176,6 @@ plainLast r = r .machine .last
 
 abbrev pub plainCount : PlainAnswer → ℕ
 plainCount r = r .machine .count
-
-abbrev pub plainByte : ℕ → PlainAnswer → ℕ
-plainByte a r = getD (r .memory) a 0
 
 abbrev pub plainLog : ℕ → PlainAnswer → ℕ
 plainLog j r = getD (r .log) j 0

@@ -1,15 +1,15 @@
 -- The work of a stage in a clock: decode, forwarding, execute, access.
 use Prim.Native.Nat.{ℕ, _+_, _-_, _^_}
 use Prim.Native.String.{String}
-use mathlib.Core.Bool.{Bool, true, false}
+use mathlib.Core.Bool.{true, false}
 use mathlib.Core.List.{List, [], _∷_}
 use Rattle.machine.specs.Memory.{Memory}
 use Rattle.machine.specs.Prediction.{asIn01}
 use Rattle.machine.specs.Runs.{pipeRunUnlogged}
-use Rattle.records.specs.Names.{Instruction, Status, aok, hlt, adr, ins}
+use Rattle.records.specs.Names.{Instruction, aok, hlt, ins}
 use Rattle.records.specs.Given.{Change, image, with, file, registers, codes, D, E, M, W, nop, cmov, irmovq, rmmovq, mrmovq, operation, jump, call}
 use Rattle.records.specs.Given.{ret, pushq, popq, fetchedAs}
-use Rattle.records.specs.Looks.{Row, clocked, numbers, register, codesNow, byte, word, e, address, valA, valB, carriedA, result, holds}
+use Rattle.records.specs.Looks.{Row, clocked, numbers, codesNow, byte, word, valA, valB, carriedA, result, holds}
 use Rattle.records.specs.Looks.{resultW, loaded, statusW}
 
 -- memory in which nothing is fetched but halt
@@ -129,6 +129,7 @@ rowsOfWork =
     ∷ executes "R5.2 popq: rsp + 8" (popq 0 0) 24 24 32
     ∷ executes "R2.5 ret: rsp + 8 wraps" (ret 0) (2 ^ 64 - 8) (2 ^ 64 - 8) 0
     ∷ executes "R5.6 nop: nothing" (nop 0) 7 5 0
+    ∷ clocked "R5.6 the condition of an OPq is true, whatever its function" (E (operation 1 0 1 0) 1 2 ∷ codes 0 ∷ []) halts 1 ((holds, 1) ∷ [])
     ∷ executes "R5.6 jXX: nothing" (jump 0 9 0) 7 5 0
     -- accesses: "A word at address a is inside exactly when a + 7, without wrapping, is below N; otherwise ADR."
     ∷ loads "R2.4 mrmovq loads from rB + C: 8 bytes, least first" (mrmovq 0 1 0 0) 0 8 0x0807060504030201 1
