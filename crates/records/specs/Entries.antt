@@ -8,9 +8,9 @@ use Rattle.machine.specs.Memory.{Memory}
 use Rattle.machine.specs.Prediction.{asIn01}
 use Rattle.machine.specs.Plain.{plainOf, plainStart}
 use Rattle.machine.specs.Premise.{writesByte, hasByte}
-use Rattle.machine.specs.Runs.{PlainAnswer, plainAnswer, plainStep, pipeRunUnlogged, pipeClock}
+use Rattle.machine.specs.Runs.{PlainAnswer, plainAnswer, plainRefusal as plainRefuses, plainStep, pipeRefusal, pipeRunUnlogged, pipeClock}
 use Rattle.records.specs.Names.{Instruction, Machine, Status, aok, hlt, adr, ins}
-use Rattle.records.specs.Given.{Change, image, given, coded, with, stopped, counts, keeps, D, E, M, W, nop, cmov, operation, jump}
+use Rattle.records.specs.Given.{Change, image, given, coded, fresh, with, stopped, counts, keeps, D, E, M, W, nop, cmov, operation, jump}
 use Rattle.records.specs.Given.{popq, unknown, fetchedAs, instruction}
 use Rattle.records.specs.Looks.{Row, answers, numbers, ran, performed, refusal, status, last, retired, cycles, predicted, d, address}
 use Rattle.records.specs.Looks.{addressLog, cycleLog, plainRefusal, plainRegister, plainCodes, plainAddress, plainStatus, plainLast}
@@ -96,8 +96,8 @@ rowsOfEntries =
     -- refusals: each of its own, at both ends
     ∷ refuses "R14.1 1: N is 0" 1 [] [] 1 (nines 1) (nines 1)
     ∷ refuses "R14.1 N is 1" 0 [] (nines 1) 1 (nines 1) (nines 1)
-    ∷ refuses "R14.1 N is 4,096" 0 [] (nines 4096) 1 (nines 1) (nines 1)
-    ∷ refuses "R14.1 1: N is above 4,096" 1 [] (nines 4097) 1 (nines 1) (nines 1)
+    ∷ numbers "R14.1 1: N is above 4,096" (pipeRefusal fresh 4096 1 [] ∷ pipeRefusal fresh 4097 1 [] ∷ []) (0 ∷ 1 ∷ [])
+    ∷ numbers "R14.1 plain: 1: N is above 4,096" (plainRefuses 4096 0 1 [] ∷ plainRefuses 4097 0 1 [] ∷ []) (0 ∷ 1 ∷ [])
     ∷ refuses "R14.1 3: budget 0" 3 [] short 0 [] []
     ∷ refuses "R13.2 3: without wrapping" 3 (counts 0 1 0 0 0 ∷ []) short (2 ^ 64 - 1) [] []
     ∷ refuses "R13.2 3: cycles count, and not the retired" 0 (counts 5 262144 0 0 0 ∷ []) short 1 (nines 1) (nines 1)
@@ -116,7 +116,6 @@ rowsOfEntries =
     ∷ performed "R14.1 plain: a log as long as the budget" (machine 0 aok 0 65534) short 2 (nines 2) ((plainRefusal, 0) ∷ (plainCount, 65536) ∷ [])
     ∷ performed "R14.1 plain: a log shorter than the budget" (machine 0 aok 0 0) short 2 (nines 1) ((plainRefusal, 4) ∷ [])
     ∷ performed "R14.1 plain: 3: budget 0" (machine 0 aok 0 0) short 0 [] ((plainRefusal, 3) ∷ [])
-    ∷ performed "R14.1 plain: 1: N is above 4,096" (machine 0 aok 0 0) (nines 4097) 1 (nines 1) ((plainRefusal, 1) ∷ [])
     -- 5, in D, E, M, W and the kept one
     ∷ anywhere "R14.3 5: register number over 15, the first" 5 (cmov 0 16 0 0)
     ∷ anywhere "R14.3 5: register number over 15, the second" 5 (cmov 0 0 16 0)
