@@ -52,8 +52,8 @@ abbrev stores : String → Instruction → (a result : ℕ) → (before word sta
 stores s i a r b v t =
     clocked s (M i a r true ∷ []) (image 16 16 0x0000000000000000_0102030405060708) 1 ((byte 7, b) ∷ (word 8, v) ∷ (loaded, 0) ∷ (statusW, t) ∷ [])
 
-unfoldable pub rowsOfWork : List Row
-rowsOfWork =
+unfoldable pub rowsOfSources : List Row
+rowsOfSources =
     -- "Sources: cmov rA; rmmovq, OPq rA and rB; mrmovq rB; pushq rA and rsp; popq, call, ret rsp; others none."
     decodes "R9.1 Sources: cmov rA" (cmov 0 2 3 0) 102 0
     ∷ decodes "R9.1 Sources: rmmovq rA and rB" (rmmovq 2 0 3 0) 102 103
@@ -91,8 +91,12 @@ rowsOfWork =
     ∷ takes "R9.4 Register 15 matches nothing, in E" 15 (E (irmovq 9 15 0) 0 0 ∷ []) 0
     ∷ takes "R9.4 Register 15 matches nothing, in M" 15 (M (mrmovq 0 0 15 0) 0 8 true ∷ []) 0
     ∷ takes "R9.4 Register 15 matches nothing, in W" 15 (W (irmovq 9 15 0) 9 true 0 aok ∷ []) 0
+    ∷ []
+
+unfoldable pub rowsOfResults : List Row
+rowsOfResults =
     -- "OPq: rB becomes rB add, subtract, and, xor rA"; "OF: exactly when the true signed result lies outside -2^63 to 2^63-1; else 0"
-    ∷ operates "R6.4 add: 2^63-2 and 1 is inside" 0 1 (2 ^ 63 - 2) (2 ^ 63 - 1) 0
+    operates "R6.4 add: 2^63-2 and 1 is inside" 0 1 (2 ^ 63 - 2) (2 ^ 63 - 1) 0
     ∷ operates "R6.4 add: 2^63-1 and 1 is outside" 0 1 (2 ^ 63 - 1) (2 ^ 63) 3
     ∷ operates "R6.4 add: -2^63+1 and -1 is inside" 0 (2 ^ 64 - 1) (2 ^ 63 + 1) (2 ^ 63) 2
     ∷ operates "R6.4 add: -2^63 and -1 is outside" 0 (2 ^ 64 - 1) (2 ^ 63) (2 ^ 63 - 1) 1
@@ -131,8 +135,12 @@ rowsOfWork =
     ∷ executes "R5.6 nop: nothing" (nop 0) 7 5 0
     ∷ clocked "R5.6 the condition of an OPq is true, whatever its function" (E (operation 1 0 1 0) 1 2 ∷ codes 0 ∷ []) halts 1 ((holds, 1) ∷ [])
     ∷ executes "R5.6 jXX: nothing" (jump 0 9 0) 7 5 0
-    -- accesses: "A word at address a is inside exactly when a + 7, without wrapping, is below N; otherwise ADR."
-    ∷ loads "R2.4 mrmovq loads from rB + C: 8 bytes, least first" (mrmovq 0 1 0 0) 0 8 0x0807060504030201 1
+    ∷ []
+
+unfoldable pub rowsOfAccesses : List Row
+rowsOfAccesses =
+    -- "A word at address a is inside exactly when a + 7, without wrapping, is below N; otherwise ADR."
+    loads "R2.4 mrmovq loads from rB + C: 8 bytes, least first" (mrmovq 0 1 0 0) 0 8 0x0807060504030201 1
     ∷ loads "R5.2 popq loads the word at the old rsp" (popq 0 0) 8 16 0x0807060504030201 1
     ∷ loads "R5.2 ret loads the word at the old rsp" (ret 0) 8 16 0x0807060504030201 1
     ∷ loads "R5.5 A load outside memory reads 0, and is ADR" (mrmovq 0 1 0 0) 0 9 0 3
