@@ -7,21 +7,13 @@ use native.Mathlib.Omega.{arith}
 use lib.ListN.{length, getD, replicate}
 use Rattle.account.specs.Names.{Status, aok, hlt, adr, ins, Codes, Kinds}
 use Rattle.machine.specs.Types.{statusNumber, isBad}
-use Rattle.machine.specs.Words
-use Rattle.machine.specs.Memory
-use Rattle.machine.specs.Table
-use Rattle.machine.specs.Fetch
-use Rattle.machine.specs.Stages
-use Rattle.machine.specs.Plain
-use Rattle.machine.specs.Prediction
-use Rattle.machine.specs.Charges
-use Rattle.machine.specs.Pipeline
 use Rattle.machine.specs.Memory.{Memory, Registers}
 use Rattle.machine.specs.Plain.{Plain, isStopped, steps}
 use Rattle.machine.specs.Prediction.{Settings, asIn01}
 use Rattle.machine.specs.Charges.{due}
 use Rattle.machine.specs.Pipeline.{Piped, clocks}
 use Rattle.machine.specs.Premise.{Untouched}
+use Rattle.machine.specs.Computing.{computing}
 use Rattle.account.specs.Statement.{Start, plainFrom, pipedFrom, Agrees, Demand3}
 use Rattle.account.specs.Decide.{UntouchedWithin, untouched, untouched-sound, touches, clear, all}
 
@@ -43,27 +35,7 @@ pub record Figures : Type 0 where
   pub kinds : Kinds
 
 pub figures : ℕ → Memory → (k c : ℕ) → Figures
-unfolding from
-    Words.sum Words.difference Words.number Words.placed Words.signed Words.outside
-    Memory.inside Memory.load Memory.store Memory.value Memory.written
-    Table.table Table.rowOf Table.is
-    Fetch.sizeAt Fetch.ownBytes Fetch.stopping Fetch.halvesFit Fetch.checked Fetch.half Fetch.constantIn Fetch.parsed Fetch.fetch
-    Stages.register Stages.sourceA Stages.sourceB Stages.decode Stages.operated Stages.overflows Stages.operatedCodes Stages.newCodes
-    Stages.condition Stages.computed Stages.result Stages.outcome Stages.execute Stages.loading Stages.storing Stages.loads
-    Stages.stores Stages.addressed Stages.accessAddress Stages.stored Stages.storedWord Stages.accessStatus Stages.access
-    Stages.newMemory Stages.resultTarget Stages.loadedTarget Stages.newRegisters Stages.turned Stages.straight Stages.nextAddress
-    Plain.plainStart Plain.isStopped Plain.fetched Plain.decoded Plain.executed Plain.accessed Plain.performed Plain.stoppedBy
-    Plain.step Plain.steps
-    Prediction.guess Prediction.predictedNext Prediction.mispredicted Prediction.meets Prediction.loadUse
-    Charges.reasonBehind Charges.amount Charges.noKinds Charges.counted Charges.retiredOf Charges.reasonFrom Charges.reasonOf
-    Charges.charge Charges.charges Charges.due
-    Pipeline.pipeStart Pipeline.afterE Pipeline.afterM Pipeline.codesAfter Pipeline.memoryAfter Pipeline.registersAfter
-    Pipeline.pastResult Pipeline.pastBoth Pipeline.sourceW Pipeline.sourceM Pipeline.source Pipeline.waitsBehind Pipeline.waits
-    Pipeline.wrong Pipeline.mispredicts Pipeline.retInD Pipeline.retInE Pipeline.retInM Pipeline.returns Pipeline.badInW
-    Pipeline.fails Pipeline.returnedTo Pipeline.mended Pipeline.fetchAddress Pipeline.fetchedNow Pipeline.nextF Pipeline.nextD
-    Pipeline.decodedD Pipeline.nextE Pipeline.nextM Pipeline.nextCodes Pipeline.lastAfter Pipeline.retiredAfter Pipeline.kindsAfter
-    Pipeline.keptAfter Pipeline.logged Pipeline.advanced Pipeline.stoppedIn Pipeline.clockBy Pipeline.clock Pipeline.clocks
-    isBad statusNumber plainFrom pipedFrom untouched touches clear all
+unfolding from computing plainFrom pipedFrom untouched touches clear all
 figures w m k c =
     let s = plainFrom (from m) in
     let p = clocks asIn01 (pipedFrom (from m)) c .pipeline in

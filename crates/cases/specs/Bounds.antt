@@ -1,13 +1,12 @@
 -- P7, for every N of at least 8.
 use Prim.Native.Nat.{_+_, _-_, _^_, _≤_}
-use mathlib.Core.Path.{_≡_, refl}
+use mathlib.Core.Path.{_≡_}
 use mathlib.Core.Bool.{true, false, _||_}
 use native.Mathlib.Omega.{arith}
 use lib.ListN.{length}
 use borrow.Author.Tests.{lt-ltb, le-ltb}
 use Rattle.machine.specs.Memory.{Memory, inside}
 use Rattle.machine.specs.Stages.{loads, stores, accessAddress, accessStatus}
-use Rattle.machine.specs.Runs.{sizeRefused, budgetRefused, plainLimit, pipeLimit}
 use Rattle.cases.specs.Names.{Executed, adr}
 
 -- an access whose word is inside leaves the status as it was, and any other makes it ADR
@@ -30,10 +29,3 @@ P7 m x low high h =
     let a = accessAddress x + 7 in
     let n = length m in
     (λ e. within m x h (lt-ltb a n (omega arith)), λ e. beyond m x h (le-ltb a n (omega arith)), λ e. beyond m x h (le-ltb a n (omega arith)))
-
--- refusals 1 and 3 at both ends of what is let in
-pub refused-at-the-ends : (sizeRefused 0 ≡ true) × (sizeRefused 1 ≡ false) × (sizeRefused 4096 ≡ false) × (sizeRefused 4097 ≡ true)
-    × (budgetRefused plainLimit 0 0 ≡ true) × (budgetRefused plainLimit 65535 1 ≡ false) × (budgetRefused plainLimit 65536 1 ≡ true)
-    × (budgetRefused pipeLimit 262144 1 ≡ false) × (budgetRefused pipeLimit 262145 1 ≡ true)
-unfolding sizeRefused budgetRefused
-refused-at-the-ends = (refl, refl, refl, refl, refl, refl, refl, refl, refl)

@@ -11,3 +11,4 @@ pub mod Charges
 pub mod Pipeline
 pub mod Premise
 pub mod Runs
+pub mod Computing

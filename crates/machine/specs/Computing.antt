@@ -1,0 +1,40 @@
+-- Every definition of this crate that computes, named once: a theorem that says `unfolding computing` computes with all of them.
+use Rattle.machine.specs.Types
+use Rattle.machine.specs.Words
+use Rattle.machine.specs.Memory
+use Rattle.machine.specs.Table
+use Rattle.machine.specs.Fetch
+use Rattle.machine.specs.Stages
+use Rattle.machine.specs.Plain
+use Rattle.machine.specs.Prediction
+use Rattle.machine.specs.Charges
+use Rattle.machine.specs.Pipeline
+use Rattle.machine.specs.Premise
+use Rattle.machine.specs.Runs
+
+unfoldable pub computing : Unit {0}
+unfolding
+    Types.statusNumber Types.isBad Types.codesNumber
+    Words.sum Words.difference Words.number Words.placed Words.signed Words.outside
+    Memory.inside Memory.load Memory.store Memory.value Memory.written
+    Table.table Table.rowOf Table.is
+    Fetch.sizeAt Fetch.ownBytes Fetch.stopping Fetch.halvesFit Fetch.checked Fetch.half Fetch.constantIn Fetch.parsed Fetch.fetch
+    Stages.register Stages.sourceA Stages.sourceB Stages.decode Stages.operated Stages.overflows Stages.operatedCodes Stages.newCodes Stages.condition
+    Stages.computed Stages.result Stages.outcome Stages.execute Stages.loading Stages.storing Stages.loads Stages.stores Stages.addressed
+    Stages.accessAddress Stages.stored Stages.storedWord Stages.accessStatus Stages.access Stages.newMemory Stages.resultTarget Stages.loadedTarget
+    Stages.newRegisters Stages.turned Stages.straight Stages.nextAddress
+    Plain.plainStart Plain.isStopped Plain.fetched Plain.decoded Plain.executed Plain.accessed Plain.performed Plain.stoppedBy Plain.step Plain.steps
+    Prediction.guess Prediction.predictedNext Prediction.mispredicted Prediction.meets Prediction.loadUse
+    Charges.reasonBehind Charges.amount Charges.noKinds Charges.counted Charges.retiredOf Charges.reasonFrom Charges.reasonOf Charges.charge
+    Charges.charges Charges.kindsOf Charges.due Charges.dueCycles
+    Pipeline.pipeStart Pipeline.afterE Pipeline.afterM Pipeline.codesAfter Pipeline.memoryAfter Pipeline.registersAfter Pipeline.pastResult
+    Pipeline.pastBoth Pipeline.sourceW Pipeline.sourceM Pipeline.source Pipeline.waitsBehind Pipeline.waits Pipeline.wrong Pipeline.mispredicts
+    Pipeline.retInD Pipeline.retInE Pipeline.retInM Pipeline.returns Pipeline.badInW Pipeline.fails Pipeline.returnedTo Pipeline.mended
+    Pipeline.fetchAddress Pipeline.fetchedNow Pipeline.nextF Pipeline.nextD Pipeline.decodedD Pipeline.nextE Pipeline.nextM Pipeline.nextCodes
+    Pipeline.lastAfter Pipeline.retiredAfter Pipeline.kindsAfter Pipeline.keptAfter Pipeline.logged Pipeline.advanced Pipeline.stoppedIn
+    Pipeline.clockBy Pipeline.clock Pipeline.clocks
+    Premise.writesByte Premise.hasByte
+    Runs.laid Runs.sizeRefused Runs.budgetRefused Runs.logRefused Runs.instructionRefused Runs.refusedInD Runs.refusedInE Runs.refusedInM
+    Runs.refusedInW Runs.refusedKept Runs.countsRefused Runs.recordRefused Runs.lowest Runs.fetchAnswer Runs.plainRefusal Runs.plainDone Runs.plainBy
+    Runs.plainRun Runs.plainStep Runs.pipeRefusal Runs.pipeDone Runs.pipeBy Runs.pipeRun Runs.pipeRunUnlogged Runs.pipeClock
+computing = tt

@@ -1,0 +1,94 @@
+-- Fetching: the table, the checks in their order, the fields, and what a bad fetch travels as.
+use Prim.Native.Nat.{ℕ, _-_, _^_}
+use Prim.Native.String.{String}
+use mathlib.Core.List.{List, [], _∷_}
+use lib.ListN.{replicate}
+use Rattle.machine.specs.Types.{statusNumber}
+use Rattle.machine.specs.Fetch.{fetch}
+use Rattle.machine.specs.Runs.{fetchAnswer}
+use Rattle.records.specs.Names.{Instruction, FetchAnswer}
+use Rattle.records.specs.Given.{image, F}
+use Rattle.records.specs.Looks.{Row, Look, answers, clocked, numbers, predicted, d, address, fetchStatus, code, function, ra, rb, constant, next}
+
+-- the status with which each image is fetched at 0: how many bytes there are, and the bytes as they are written
+abbrev statuses : List (ℕ × ℕ) → List ℕ
+statuses [] = []
+statuses (x ∷ xs) = statusNumber (fetch (image (x .0) (x .0) (x .1)) 0 .status) ∷ statuses xs
+
+abbrev fetches : String → List (ℕ × ℕ) → List ℕ → Row
+fetches s xs = numbers s (statuses xs)
+
+-- what is fetched at an address
+abbrev fetchesAt : String → (size bytes written address : ℕ) → List (Look Instruction) → Row
+fetchesAt s n k x a = answers s (fetch (image n k x) a)
+
+-- of the open entry's answer
+abbrev refusal : FetchAnswer → ℕ
+refusal r = r .number
+
+abbrev of : (Instruction → ℕ) → FetchAnswer → ℕ
+of f r = f (r .instruction)
+
+unfoldable pub rowsOfFetch : List Row
+rowsOfFetch =
+    -- the table's functions: each at its end, and the next one
+    fetches "R3.2 halt, nop, ret: function 0" ((1, 0x00) ∷ (1, 0x01) ∷ (1, 0x10) ∷ (1, 0x11) ∷ (1, 0x90) ∷ (1, 0x91) ∷ []) (2 ∷ 4 ∷ 1 ∷ 4 ∷ 1 ∷ 4 ∷ [])
+    ∷ fetches "R3.2 cmovXX: functions 0-6" ((2, 0x2001) ∷ (2, 0x2601) ∷ (2, 0x2701) ∷ (2, 0x2f01) ∷ []) (1 ∷ 1 ∷ 4 ∷ 4 ∷ [])
+    ∷ fetches "R3.2 irmovq: function 0" ((10, 0x30f1_0000000000000000) ∷ (10, 0x31f1_0000000000000000) ∷ []) (1 ∷ 4 ∷ [])
+    ∷ fetches "R3.2 rmmovq: function 0" ((10, 0x4001_0000000000000000) ∷ (10, 0x4101_0000000000000000) ∷ []) (1 ∷ 4 ∷ [])
+    ∷ fetches "R3.2 mrmovq: function 0" ((10, 0x5001_0000000000000000) ∷ (10, 0x5101_0000000000000000) ∷ []) (1 ∷ 4 ∷ [])
+    ∷ fetches "R3.2 OPq: functions 0-3" ((2, 0x6001) ∷ (2, 0x6301) ∷ (2, 0x6401) ∷ (2, 0x6f01) ∷ []) (1 ∷ 1 ∷ 4 ∷ 4 ∷ [])
+    ∷ fetches "R3.2 jXX: functions 0-6" ((9, 0x70_0000000000000000) ∷ (9, 0x76_0000000000000000) ∷ (9, 0x77_0000000000000000) ∷ []) (1 ∷ 1 ∷ 4 ∷ [])
+    ∷ fetches "R3.2 call: function 0" ((9, 0x80_0000000000000000) ∷ (9, 0x81_0000000000000000) ∷ []) (1 ∷ 4 ∷ [])
+    ∷ fetches "R3.2 pushq, popq: function 0" ((2, 0xa00f) ∷ (2, 0xa10f) ∷ (2, 0xb00f) ∷ (2, 0xb10f) ∷ []) (1 ∷ 4 ∷ 1 ∷ 4 ∷ [])
+    ∷ fetches "R3.2 C to F: none" ((1, 0xc0) ∷ (1, 0xd0) ∷ (1, 0xe0) ∷ (1, 0xf0) ∷ (1, 0xff) ∷ []) (4 ∷ 4 ∷ 4 ∷ 4 ∷ 4 ∷ [])
+    -- the table's lengths: a byte too few; the images above are just long enough
+    ∷ fetches "R3.2 a later byte outside memory, ADR: lengths 2" ((1, 0x20) ∷ (1, 0x60) ∷ (1, 0xa0) ∷ (1, 0xb0) ∷ []) (3 ∷ 3 ∷ 3 ∷ 3 ∷ [])
+    ∷ fetches "R3.2 a later byte outside memory, ADR: lengths 10"
+    ((9, 0x30f1_00000000000000) ∷ (9, 0x4001_00000000000000) ∷ (9, 0x5001_00000000000000) ∷ []) (3 ∷ 3 ∷ 3 ∷ [])
+    ∷ fetches "R3.2 a later byte outside memory, ADR: lengths 9" ((8, 0x70_00000000000000) ∷ (8, 0x80_00000000000000) ∷ []) (3 ∷ 3 ∷ [])
+    -- the order of the checks
+    ∷ fetchesAt "R4.1 first byte outside memory, ADR" 1 1 0x10 1 ((fetchStatus, 3) ∷ (address, 1) ∷ [])
+    ∷ fetchesAt "R4.1 first byte outside memory, ADR: at the highest address" 1 1 0x10 (2 ^ 64 - 1) ((fetchStatus, 3) ∷ (address, 2 ^ 64 - 1) ∷ [])
+    ∷ fetches "R4.1 code or function not in the table before a later byte outside"
+    ((1, 0x27) ∷ (1, 0x31) ∷ (1, 0x77) ∷ (1, 0x81) ∷ (1, 0xa1) ∷ []) (4 ∷ 4 ∷ 4 ∷ 4 ∷ 4 ∷ [])
+    ∷ fetches "R4.1 a later byte outside before a named register that is 15 or a filler that isn't F"
+    ((9, 0x40ff_00000000000000) ∷ (9, 0x3000_00000000000000) ∷ []) (3 ∷ 3 ∷ [])
+    -- named registers and fillers, by instruction and half
+    ∷ fetches "R4.1 a named register that is 15: cmovXX" ((2, 0x20f0) ∷ (2, 0x200f) ∷ (2, 0x20ee) ∷ []) (4 ∷ 4 ∷ 1 ∷ [])
+    ∷ fetches "R4.1 a named register that is 15: OPq" ((2, 0x60f0) ∷ (2, 0x600f) ∷ (2, 0x60ee) ∷ []) (4 ∷ 4 ∷ 1 ∷ [])
+    ∷ fetches "R4.1 a named register that is 15: rmmovq"
+    ((10, 0x40f0_0000000000000000) ∷ (10, 0x400f_0000000000000000) ∷ (10, 0x40ee_0000000000000000) ∷ []) (4 ∷ 4 ∷ 1 ∷ [])
+    ∷ fetches "R4.1 a named register that is 15: mrmovq"
+    ((10, 0x50f0_0000000000000000) ∷ (10, 0x500f_0000000000000000) ∷ (10, 0x50ee_0000000000000000) ∷ []) (4 ∷ 4 ∷ 1 ∷ [])
+    ∷ fetches "R4.1 irmovq F rB: a filler that isn't F, a named register that is 15"
+    ((10, 0x30e0_0000000000000000) ∷ (10, 0x30ff_0000000000000000) ∷ (10, 0x30fe_0000000000000000) ∷ []) (4 ∷ 4 ∷ 1 ∷ [])
+    ∷ fetches "R4.1 pushq rA F: a filler that isn't F, a named register that is 15" ((2, 0xa00e) ∷ (2, 0xa0ff) ∷ (2, 0xa0ef) ∷ []) (4 ∷ 4 ∷ 1 ∷ [])
+    ∷ fetches "R4.1 popq rA F: a filler that isn't F, a named register that is 15" ((2, 0xb00e) ∷ (2, 0xb0ff) ∷ (2, 0xb0ef) ∷ []) (4 ∷ 4 ∷ 1 ∷ [])
+    -- the fields
+    ∷ fetchesAt "R3.1 First byte is code and function; then a register byte rA:rB" 3 3 0x10_2623 1
+    ((fetchStatus, 1) ∷ (address, 1) ∷ (code, 2) ∷ (function, 6) ∷ (ra, 2) ∷ (rb, 3) ∷ (constant, 0) ∷ (next, 3) ∷ [])
+    ∷ fetchesAt "R3.1 a register byte rA:rB and an 8-byte constant C, least first" 10 10 0x5023_0102030405060708 0
+    ((code, 5) ∷ (function, 0) ∷ (ra, 2) ∷ (rb, 3) ∷ (constant, 0x0807060504030201) ∷ (next, 10) ∷ [])
+    ∷ fetchesAt "R4.2 jXX has no register byte, so C follows the first" 9 9 0x76_f102030405060708 0
+    ((fetchStatus, 1) ∷ (code, 7) ∷ (function, 6) ∷ (ra, 15) ∷ (rb, 15) ∷ (constant, 0x08070605040302f1) ∷ (next, 9) ∷ [])
+    ∷ fetchesAt "R4.2 call has no register byte" 9 9 0x80_f102030405060708 0
+    ((fetchStatus, 1) ∷ (ra, 15) ∷ (rb, 15) ∷ (constant, 0x08070605040302f1) ∷ (next, 9) ∷ [])
+    -- the open entry: refusal 1, and the nop that a fetch outside memory gives
+    ∷ answers "R14.1 fetch, 1: N is 0" (fetchAnswer [] 5) ((refusal, 1) ∷ (of address, 5) ∷ (of fetchStatus, 3) ∷ (of code, 1) ∷ (of next, 5) ∷ [])
+    ∷ answers "R14.1 fetch, 1: N is above 4,096" (fetchAnswer (replicate 4097 0x10) 5) ((refusal, 1) ∷ (of fetchStatus, 3) ∷ [])
+    ∷ answers "R14.1 fetch, N is 4,096" (fetchAnswer (replicate 4096 0x10) 5) ((refusal, 0) ∷ (of address, 5) ∷ (of fetchStatus, 1) ∷ (of next, 6) ∷ [])
+    -- "An instruction fetched with status not AOK travels as a nop with that status; its predicted address is its own."
+    ∷ clocked "R4.3 a bad fetch travels as a nop: INS" (F 1 ∷ []) (image 3 3 0x10_64_23) 1
+    ((d address, 1) ∷ (d fetchStatus, 4) ∷ (d code, 1) ∷ (d function, 0) ∷ (d ra, 15) ∷ (d rb, 15) ∷ (d constant, 0) ∷ (d next, 1) ∷ (predicted, 1) ∷ [])
+    ∷ clocked "R4.3 its predicted address is its own: HLT" (F 2 ∷ []) (image 4 2 0x1010) 1
+    ((d fetchStatus, 2) ∷ (d code, 1) ∷ (d next, 2) ∷ (predicted, 2) ∷ [])
+    ∷ clocked "R4.3 its predicted address is its own: ADR" (F 3 ∷ []) (image 3 3 0x101010) 1
+    ((d fetchStatus, 3) ∷ (d code, 1) ∷ (d next, 3) ∷ (predicted, 3) ∷ [])
+    -- prediction
+    ∷ clocked "R8.4 Prediction: jXX goes to C, whatever its condition" (F 1 ∷ []) (image 10 10 0x10_73_2a00000000000000) 1
+    ((predicted, 42) ∷ (d next, 10) ∷ [])
+    ∷ clocked "R8.4 Prediction: call goes to C" (F 1 ∷ []) (image 10 10 0x10_80_2a00000000000000) 1 ((predicted, 42) ∷ (d next, 10) ∷ [])
+    ∷ clocked "R8.4 others to the next address: ret" (F 1 ∷ []) (image 2 2 0x10_90) 1 ((predicted, 2) ∷ (d next, 2) ∷ [])
+    ∷ clocked "R8.4 others to the next address: irmovq" [] (image 10 10 0x30f1_2a00000000000000) 1 ((predicted, 10) ∷ [])
+    ∷ []
