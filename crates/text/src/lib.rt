@@ -1,5 +1,7 @@
 // Texts in lent buffers: what every writer and reader of a text shares.
 mod decimal;
+pub mod hex;
+pub mod parts;
 mod putting;
 
 pub use decimal::put_decimal;

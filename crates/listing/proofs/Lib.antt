@@ -1,0 +1,4 @@
+pub mod Checks
+pub mod Judgement
+pub mod Bytes
+pub mod Lines

@@ -1,0 +1,28 @@
+use native.Mathlib.Omega.{arith}
+use Rattle.text.proofs.Places.{from-there}
+use borrow.Author.Needs.{needs}
+use Rattle.text.proofs.parts.place_from.Statement.{statement}
+use Rattle.text.proofs.parts.place_from.Tie as tie
+
+sub-place : tie.Need-sub-place
+sub-place c = search needs
+
+part-place-start : tie.Need-part-place-start
+part-place-start c = search needs
+
+part-place-end : tie.Need-part-place-end
+part-place-end c = search needs
+
+place-requires : tie.Need-place-requires
+place-requires c κs = search needs
+
+add-result : tie.Need-add-result
+add-result c = omega (arith, from-there (c .before .before .before .args .c) (c .before .before .before .args .s .now) (c .before .before .before .args .at) (c .place .result) (c .before .before .before .pre) (c .place .ensures) .1)
+
+returns : tie.Need-returns
+returns c = from-there _ _ _ _ (c .before .before .before .pre) (c .place .ensures)
+
+pub place-from-spec : {M : Type 1} → statement M
+place-from-spec =
+    tie.close
+    (tie.spec sub-place part-place-start part-place-end place-requires add-result returns)
