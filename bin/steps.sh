@@ -60,9 +60,10 @@ proving() {
         END { led() }'
 }
 
-# archive NAME: target/staticlib/libNAME.a, made again only where rt holds NAME for changed since
+# archive NAME: target/staticlib/libNAME.a of the crate as it stands, made again only where the crate or the archive is another
 archive() {
-    local made=target/staticlib/$1.stamp
-    if [ -f "target/staticlib/lib$1.a" ] && cmp -s "target/stamp/$1" "$made"; then return; fi
-    quietly rt staticlib "$1" && cp "target/stamp/$1" "$made"
+    local archive=target/staticlib/lib$1.a made=target/$1.made
+    quietly rt check "$1" || return
+    if [ -f "$archive" ] && cat "target/stamp/$1" <(sha256sum "$archive") | cmp -s - "$made"; then return; fi
+    quietly rt staticlib "$1" && cat "target/stamp/$1" <(sha256sum "$archive") >"$made"
 }
