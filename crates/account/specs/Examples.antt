@@ -101,7 +101,8 @@ goes-on : (n : ℕ) × Agrees asIn01 (plainFrom (from patching)) (clocks asIn01 
 unfolding figures patching
 goes-on x =
     let four : 4 ≡ x .0 = x .1 .retired in
-    let clash : statusNumber aok ≡ statusNumber hlt = ap statusNumber (x .1 .status ∙ ap (λ (n : ℕ). steps (plainFrom (from patching)) n .machine .status) (sym four)) in
+    let stopped = ap (λ (n : ℕ). steps (plainFrom (from patching)) n .machine .status) (sym four) in
+    let clash : statusNumber aok ≡ statusNumber hlt = ap statusNumber (x .1 .status ∙ stopped) in
     omega (arith, clash)
 
 -- with two it is false

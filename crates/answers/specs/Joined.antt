@@ -24,8 +24,11 @@ pub record Engine : Type 1 where
   pub moves : (s : State) (n : ℕ) → run s n .0 ≡ 0 → run s n .1 ≡ moved move s n
 
 module _ (e : Engine) where
-  pub joined : (s : e .State) (a b : ℕ) → e .run s a .0 ≡ 0 → e .run (e .run s a .1) b .0 ≡ 0 → e .run s (a + b) .0 ≡ 0 → e .run s (a + b) .1 ≡ e .run (e .run s a .1) b .1
-  joined s a b f h t = e .moves s (a + b) t ∙ moved-add (e .move) s a b ∙ ap (λ x. moved (e .move) x b) (sym (e .moves s a f)) ∙ sym (e .moves (e .run s a .1) b h)
+  pub joined : (s : e .State) (a b : ℕ) → e .run s a .0 ≡ 0 → e .run (e .run s a .1) b .0 ≡ 0 → e .run s (a + b) .0 ≡ 0
+      → e .run s (a + b) .1 ≡ e .run (e .run s a .1) b .1
+  joined s a b f h t =
+      let one = e .moves s a f in
+      e .moves s (a + b) t ∙ moved-add (e .move) s a b ∙ ap (λ x. moved (e .move) x b) (sym one) ∙ sym (e .moves (e .run s a .1) b h)
 
   -- so many runs of 1, each from where the last one ended
   unfoldable pub ones : e .State → ℕ → e .State

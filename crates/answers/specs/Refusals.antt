@@ -12,7 +12,8 @@ failed true n x e = absurd (omega arith)
 failed false n x e = (refl, e)
 
 -- an answer whose number is 0 is that of a run, and no refusal
-pub ran : {A : Type 0} (number : A → ℕ) (n : ℕ) (done refused : A) → number refused ≡ n → number (cond (eqb n 0) done refused) ≡ 0 → cond (eqb n 0) done refused ≡ done
+pub ran : {A : Type 0} (number : A → ℕ) (n : ℕ) (done refused : A) → number refused ≡ n
+    → number (cond (eqb n 0) done refused) ≡ 0 → cond (eqb n 0) done refused ≡ done
 ran number n done refused r = go (eqb n 0) refl
   where
     go : (b : Bool) → eqb n 0 ≡ b → number (cond b done refused) ≡ 0 → cond b done refused ≡ done

@@ -121,14 +121,16 @@ module _ (g : Settings) where
   unfolding pipeBy
   done logs k m n a y h = ran (λ o. o .number) (pipeRefusal k (length m) n logs) _ _ refl h
 
-  done-run : (k : Pipeline) (m : Memory) (n : ℕ) (a y : List ℕ) → pipeRun g k m n a y .number ≡ 0 → pipeRun g k m n a y ≡ pipeDone (clocks g (pipedOf k m) n) a y
+  done-run : (k : Pipeline) (m : Memory) (n : ℕ) (a y : List ℕ) → pipeRun g k m n a y .number ≡ 0
+      → pipeRun g k m n a y ≡ pipeDone (clocks g (pipedOf k m) n) a y
   unfolding pipeRun
   done-run k m n a y h = done (length a ∷ length y ∷ []) k m n a y h
 
   -- THE THEOREM
   -- the answers f, h and b of the first run, the second and both, over the states s and r in which the first two end
   from-states : (s r : Piped) (n : ℕ) (log times : List ℕ) (f h b : PipeAnswer) → f .addresses ≡ laid (s .addressLog) log → f .cycles ≡ laid (s .cycleLog) times
-      → n ≡ length (s .addressLog) → n ≡ length (s .cycleLog) → h ≡ pipeDone r (drop n (f .addresses)) (drop n (f .cycles)) → b ≡ pipeDone (before (s .addressLog) (s .cycleLog) r) log times
+      → n ≡ length (s .addressLog) → n ≡ length (s .cycleLog) → h ≡ pipeDone r (drop n (f .addresses)) (drop n (f .cycles))
+      → b ≡ pipeDone (before (s .addressLog) (s .cycleLog) r) log times
       → b ≡ pipeAnswer 0 (h .pipeline) (h .memory) (take n (f .addresses) ++ h .addresses) (take n (f .cycles) ++ h .cycles)
   unfolding pipeDone before
   from-states s r n log times f h b fa fy ea ey eh eb =
@@ -150,7 +152,8 @@ module _ (g : Settings) where
     both = pipeRun g k m (a + b) log times
 
     pub joined : first .number ≡ 0 → second .number ≡ 0 → both .number ≡ 0
-        → both ≡ pipeAnswer 0 (second .pipeline) (second .memory) (take retirements (first .addresses) ++ second .addresses) (take retirements (first .cycles) ++ second .cycles)
+        → both
+        ≡ pipeAnswer 0 (second .pipeline) (second .memory) (take retirements (first .addresses) ++ second .addresses) (take retirements (first .cycles) ++ second .cycles)
     unfolding pipeDone
     joined hf hs hb =
         let s = clocks g (pipedOf k m) a in

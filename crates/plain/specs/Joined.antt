@@ -23,7 +23,8 @@ goingOn k m a b log =
     plainRun (one .machine) (one .memory) b (drop (performedIn k m a) (one .log))
 
 -- a run that is not refused, with a log or without
-done : (logs : List ℕ) (k : Machine) (m : Memory) (a : ℕ) (log : List ℕ) → plainBy logs k m a log .number ≡ 0 → plainBy logs k m a log ≡ plainDone (steps (plainOf k m) a) log
+done : (logs : List ℕ) (k : Machine) (m : Memory) (a : ℕ) (log : List ℕ) → plainBy logs k m a log .number ≡ 0
+    → plainBy logs k m a log ≡ plainDone (steps (plainOf k m) a) log
 unfolding plainBy
 done logs k m a log h = ran (λ o. o .number) (plainRefusal (length m) (k .count) a logs) _ _ refl h
 
@@ -75,7 +76,8 @@ steps-moved k m (suc n) =
     let s = steps (plainOf k m) n in
     ap (λ (t : Plain). (t .machine, t .memory)) (step-bare s) ∙ ap stepped (steps-moved k m n)
 
-ran-moved : (k : Machine) (m : Memory) (n : ℕ) → plainBy [] k m n [] .number ≡ 0 → let o = plainBy [] k m n [] in (o .machine, o .memory) ≡ moved stepped (k, m) n
+ran-moved : (k : Machine) (m : Memory) (n : ℕ) → plainBy [] k m n [] .number ≡ 0
+    → let o = plainBy [] k m n [] in (o .machine, o .memory) ≡ moved stepped (k, m) n
 unfolding plainDone
 ran-moved k m n h = ap (λ (o : PlainAnswer). (o .machine, o .memory)) (done [] k m n [] h) ∙ steps-moved k m n
 
