@@ -1,13 +1,13 @@
--- No record that a fresh start reaches is refused for its contents, so within the limit a run can be continued.
+-- No record that a fresh start reaches is refused for its contents, so within the limit a run can be continued, and made clock by clock.
 use Prim.Native.Nat.{ℕ, zero, suc, _+_, _/_, _%_, _≤_, _<_}
 use mathlib.Core.Bool.{Bool, true, false, cond, _&&_, _||_}
 use mathlib.Core.List.{List, [], _∷_}
-use mathlib.Core.Path.{_≡_, refl, sym, subst}
+use mathlib.Core.Path.{_≡_, refl, sym, _∙_, subst}
 use native.Mathlib.Omega.{arith}
 use native.Mathlib.Decide.{decLt, ℕ-discrete}
 use native.Mathlib.Nat.{div-lt-iff-lt-mul, mod-lt}
-use borrow.Author.Tests.{le-ltb, leb-false, ne-eqb}
-use lib.Dec.{ltb, leb}
+use borrow.Author.Tests.{le-ltb, ltb-false, leb-false, ne-eqb}
+use lib.Dec.{ltb, leb, eqb, eqb·suc-zero}
 use lib.ListN.{length, getD, set, take, drop, length-set, List·getD-eq-default}
 use lib.Seq.{getD-set-same, getD-set-other, getD-drop}
 use Rattle.account.specs.Names.{Status, Instruction, Executed, Accessed, Kept, StageD, bubbleD, inD, StageE, bubbleE, inE, StageM, bubbleM, inM, StageW, bubbleW, inW}
@@ -18,10 +18,12 @@ use Rattle.machine.specs.Fetch.{fetch, parsed, stopping, half, ownBytes, sizeAt
 use Rattle.machine.specs.Stages.{decode, execute, access, stores, accessAddress, storedWord, newMemory}
 use Rattle.machine.specs.Prediction.{Settings}
 use Rattle.machine.specs.Charges.{retiredOf}
-use Rattle.machine.specs.Pipeline.{Piped, pipeStart, afterE, afterM, memoryAfter, mispredicts, waits, returns, fails, fetchedNow, fetchAddress, nextD, decodedD, nextE, nextM, keptAfter, advanced, stoppedIn, clocks}
+use Rattle.machine.specs.Pipeline.{Piped, pipeStart, afterE, afterM, memoryAfter, mispredicts, waits, returns, fails, fetchedNow, fetchAddress, nextD, decodedD, nextE, nextM, keptAfter, advanced, stoppedIn, clock, clocks}
 use Rattle.machine.specs.Runs.{instructionRefused, refusedInD, refusedInE, refusedInM, refusedInW, refusedKept, countsRefused, recordRefused, sizeRefused, budgetRefused, logRefused, lowest, pipeLimit, pipeRefusal}
 use Rattle.account.specs.Statement.{Start, pipedFrom}
 use Rattle.account.specs.Laws.{checked-any}
+use Rattle.laws.specs.Tests.{neither}
+use Rattle.account.specs.Sight.{length-newMemory}
 use Rattle.account.specs.Timing.{total}
 use Rattle.account.specs.Retirement.{clock-any}
 use Rattle.account.specs.Own.{counts-within}
@@ -118,6 +120,11 @@ unfolding keptAfter retiredOf refusedInW refusedKept
 kept-fits bubbleW k h l = l
 kept-fits (inW w) k h l = h
 
+length-after : (m : StageM) (y : Memory) → length (memoryAfter m y) ≡ length y
+unfolding memoryAfter
+length-after bubbleM y = refl
+length-after (inM x) y = length-newMemory x y
+
 bytes-after : (m : StageM) (y : Memory) → Bytes y → Bytes (memoryAfter m y)
 unfolding memoryAfter
 bytes-after bubbleM y h = h
@@ -151,6 +158,12 @@ module _ (g : Settings) (p : Piped) (h : Fits p) where
   unfolding stoppedIn
   fits-stopped w = record { bytes = h .bytes; inD′ = h .inD′; inE′ = h .inE′; inM′ = h .inM′; inW′ = h .inW′; kept = h .kept }
 
+-- an answer 0: the first two tests failed
+tests-failed : (a b : Bool) (x : ℕ) → cond a 1 (cond b 3 x) ≡ 0 → (a ≡ false) × (b ≡ false)
+tests-failed true b x h = absurd (omega arith)
+tests-failed false true x h = absurd (omega arith)
+tests-failed false false x h = (refl, refl)
+
 -- THE COUNTS
 counts-fit : (p : Piped) → p .pipeline .retired + total (p .pipeline .kinds) ≤ p .pipeline .cycles → countsRefused (p .pipeline) ≡ false
 unfolding countsRefused total
@@ -181,3 +194,42 @@ module _ (g : Settings) (t : Start) (h : Bytes (t .memory)) where
       → logRefused logs budget ≡ false → pipeRefusal (clocks g (pipedFrom t) c .pipeline) size budget logs ≡ 0
   unfolding pipeRefusal lowest
   continues c size budget logs a b d = cc (never-refused c)
+
+  -- CLOCK BY CLOCK: memory keeps its size, and a clock counts one cycle at most
+  record Within (p : Piped) (c : ℕ) : Type 0 where
+    size : length (p .memory) ≡ length (t .memory)
+    cycles : p .pipeline .cycles ≤ c
+
+  within-clock : (p : Piped) (c : ℕ) → Within p c → Within (clock g p) (suc c)
+  unfolding advanced stoppedIn
+  within-clock p c k =
+      clock-any g p (λ q. Within q (suc c)) (record { size = k .size; cycles = omega (arith, k .cycles) })
+      (record { size = length-after (p .pipeline .m) (p .memory) ∙ k .size; cycles = omega (arith, k .cycles) })
+      (λ w. record { size = k .size; cycles = omega (arith, k .cycles) })
+
+  within-clocks : (c : ℕ) → Within (clocks g (pipedFrom t) c) c
+  unfolding clocks pipedFrom pipeStart
+  within-clocks zero = record { size = refl; cycles = omega arith }
+  within-clocks (suc c) = within-clock (clocks g (pipedFrom t) c) c (within-clocks c)
+
+  -- so where a run of n is not refused, neither is a shorter one, nor any of n clocks made one by one
+  module _ (n : ℕ) (r : pipeRefusal (pipedFrom t .pipeline) (length (t .memory)) n [] ≡ 0) where
+    in-limit : (sizeRefused (length (t .memory)) ≡ false) × (n ≤ pipeLimit)
+    unfolding pipeRefusal lowest budgetRefused pipedFrom pipeStart
+    in-limit =
+        let later : ℕ = cond (logRefused [] n) 4 (cond (recordRefused (pipedFrom t .pipeline)) 5 0) in
+        let f = tests-failed (sizeRefused (length (t .memory))) (budgetRefused pipeLimit 0 n) later r in
+        (f .0, omega (arith, ltb-false pipeLimit (0 + n) (neither (eqb n 0) (ltb pipeLimit (0 + n)) (f .1) .1)))
+
+    pub shorter : (i : ℕ) → suc i ≤ n → pipeRefusal (pipedFrom t .pipeline) (length (t .memory)) (suc i) [] ≡ 0
+    unfolding budgetRefused logRefused clocks pipedFrom pipeStart
+    shorter i h =
+        let below : ltb pipeLimit (0 + suc i) ≡ false = le-ltb pipeLimit (0 + suc i) (omega (arith, in-limit .1)) in
+        continues 0 (length (t .memory)) (suc i) [] (in-limit .0) (cc (eqb·suc-zero i)) refl
+
+    pub each-clock : (i : ℕ) → i < n → let p = clocks g (pipedFrom t) i in pipeRefusal (p .pipeline) (length (p .memory)) 1 [] ≡ 0
+    unfolding budgetRefused logRefused
+    each-clock i h =
+        let k = within-clocks i in
+        let c = clocks g (pipedFrom t) i .pipeline .cycles in
+        continues i _ 1 [] (rw (k .size) (in-limit .0)) (le-ltb pipeLimit (c + 1) (omega (arith, in-limit .1, k .cycles))) refl

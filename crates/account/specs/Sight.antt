@@ -30,7 +30,7 @@ getD-placed (suc k) m a v x h =
     getD-placed k (set m a (v % 256)) (a + 1) (v / 256) x (λ q. let z : a + suc k ≤ x = h (omega arith) in omega arith)
     ∙ getD-set-other m a x (v % 256) 0 (λ e. let z : a + suc k ≤ x = h (omega arith) in omega arith)
 
-length-newMemory : (x : Executed) (m : Memory) → length (newMemory x m) ≡ length m
+pub length-newMemory : (x : Executed) (m : Memory) → length (newMemory x m) ≡ length m
 unfolding newMemory store
 length-newMemory x m = go (stores (x .instruction)) (inside m (accessAddress x))
   where

@@ -142,11 +142,11 @@ pipe-ran g k m budget a y h =
     (r .0, ltb-false (length a) budget (e .0), ltb-false (length y) budget (neither (ltb (length y) budget) false (e .1) .0))
 
 pub unlogged-ran : (g : Settings) (k : Pipeline) (m : Memory) (budget : ℕ) → pipeRunUnlogged g k m budget .number ≡ 0
-    → pipeRunUnlogged g k m budget ≡ pipeDone (clocks g (pipedOf k m) budget) [] []
+    → (pipeRunUnlogged g k m budget ≡ pipeDone (clocks g (pipedOf k m) budget) [] []) × (pipeRefusal k (length m) budget [] ≡ 0)
 unfolding pipeRunUnlogged pipeBy
 unlogged-ran g k m budget h =
     let n = pipeRefusal k (length m) budget [] in
-    ran (λ (x : PipeAnswer). x .number) n (pipeDone (clocks g (pipedOf k m) budget) [] []) (pipeAnswer n k m [] []) refl h .0
+    ran (λ (x : PipeAnswer). x .number) n (pipeDone (clocks g (pipedOf k m) budget) [] []) (pipeAnswer n k m [] []) refl h
 
 -- "the limit is 262,145, which covers any 65,536 instructions"
 pub limit-covers : (g : Settings) (s : Plain) → due g s plainLimit ≤ pipeLimit
@@ -324,7 +324,7 @@ module _ (g : Settings) (t : Start) (budget clocked : ℕ) (log addresses cycles
     unfolding pipedFrom
     unlogged-too y c =
         let d = agreed c in
-        rw (plain-is .0, unlogged-ran g (pipedFrom t .pipeline) (t .memory) clocked y) (ends-agree (performed .0) (performed .1) (d .0) (d .1) [] [])
+        rw (plain-is .0, unlogged-ran g (pipedFrom t .pipeline) (t .memory) clocked y .0) (ends-agree (performed .0) (performed .1) (d .0) (d .1) [] [])
 
     -- the premise up to instruction k + 1 alone: its line and those before it, where the plain engine performed it and it is due
     pub first-lines : pipeAnswered g t clocked addresses cycles .number ≡ 0 → (k : ℕ) → Untouched (plainFrom t) (suc k)

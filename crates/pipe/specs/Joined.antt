@@ -169,7 +169,7 @@ module _ (g : Settings) where
 
   -- WITHOUT LOGS
   -- record and memory after a clock
-  unfoldable clocked : Pipeline × Memory → Pipeline × Memory
+  unfoldable pub clocked : Pipeline × Memory → Pipeline × Memory
   clocked x = let p = clock g (pipedOf (x .0) (x .1)) in (p .pipeline, p .memory)
 
   -- what so many clocks leave, though each logs
@@ -181,13 +181,13 @@ module _ (g : Settings) where
       ap (λ (t : Piped). (t .pipeline, t .memory)) (simp append-nil at (clock-before g (p .addressLog) (p .cycleLog) (pipedOf (p .pipeline) (p .memory))))
       ∙ ap clocked (clocks-moved k m n)
 
-  ran-moved : (k : Pipeline) (m : Memory) (n : ℕ) → pipeRunUnlogged g k m n .number ≡ 0
+  pub ran-moved : (k : Pipeline) (m : Memory) (n : ℕ) → pipeRunUnlogged g k m n .number ≡ 0
       → let o = pipeRunUnlogged g k m n in (o .pipeline, o .memory) ≡ moved clocked (k, m) n
   unfolding pipeRunUnlogged pipeDone
   ran-moved k m n h = ap (λ (o : PipeAnswer). (o .pipeline, o .memory)) (done [] k m n [] [] h) ∙ clocks-moved k m n
 
   -- the pipelined engine without logs: `answers` `Joined` `joined` and `ones-join` hold of it, and a run of 1 is a clock
-  pub unlogged : Engine
+  unfoldable pub unlogged : Engine
   unlogged =
       record {
         State = Pipeline × Memory;

@@ -65,7 +65,7 @@ module _ (k : Machine) (m : Memory) (a b : ℕ) (log : List ℕ) where
 
 -- WITHOUT A LOG
 -- record and memory after a step
-unfoldable stepped : Machine × Memory → Machine × Memory
+unfoldable pub stepped : Machine × Memory → Machine × Memory
 stepped x = let s = step (plainOf (x .0) (x .1)) in (s .machine, s .memory)
 
 -- what so many steps leave, though each logs
@@ -76,13 +76,13 @@ steps-moved k m (suc n) =
     let s = steps (plainOf k m) n in
     ap (λ (t : Plain). (t .machine, t .memory)) (step-bare s) ∙ ap stepped (steps-moved k m n)
 
-ran-moved : (k : Machine) (m : Memory) (n : ℕ) → plainBy [] k m n [] .number ≡ 0
+pub ran-moved : (k : Machine) (m : Memory) (n : ℕ) → plainBy [] k m n [] .number ≡ 0
     → let o = plainBy [] k m n [] in (o .machine, o .memory) ≡ moved stepped (k, m) n
 unfolding plainDone
 ran-moved k m n h = ap (λ (o : PlainAnswer). (o .machine, o .memory)) (done [] k m n [] h) ∙ steps-moved k m n
 
 -- the plain engine without a log: `answers` `Joined` `joined` and `ones-join` hold of it, and a run of 1 is a step
-pub unlogged : Engine
+unfoldable pub unlogged : Engine
 unlogged =
     record {
       State = Machine × Memory;

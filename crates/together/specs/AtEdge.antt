@@ -51,7 +51,7 @@ module _ (memory registers result : List ℕ) (start codes budget : ℕ) where
     unfolding replayed edgeRun pipedFrom
     ran =
         let inside = runs-inside memory registers result start codes budget h in
-        rw h (ap (λ (o : PipeAnswer). edgeDone o registers result) (unlogged-ran asIn01 _ memory budget inside))
+        rw h (ap (λ (o : PipeAnswer). edgeDone o registers result) (unlogged-ran asIn01 _ memory budget inside .0))
 
     -- so it shows the plain history where demand 3 holds of the pipeline
     shows : (n : ℕ) → Agrees asIn01 (plainFrom lent) piped budget n

@@ -1,2 +1,3 @@
 pub mod Both
 pub mod AtEdge
+pub mod Clocks
