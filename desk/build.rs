@@ -1,5 +1,6 @@
 //! Links the proved host edge, which `rt staticlib edge` builds. The archive
-//! of `rt staticlib trial` lies in the same folder; only its test links it.
+//! of `rt staticlib trial` lies in the same folder: only one test links it, and
+//! is told here whether it is there.
 
 use std::path::Path;
 
@@ -18,6 +19,10 @@ fn main() {
              Run `rt staticlib edge` at the root of the repository, or `bin/build`, which does all"
         );
         return;
+    }
+    println!("cargo::rustc-check-cfg=cfg(trial_archive)");
+    if folder.join("libtrial.a").is_file() {
+        println!("cargo::rustc-cfg=trial_archive");
     }
     println!("cargo::rustc-link-search=native={}", folder.display());
     println!("cargo::rustc-link-lib=static=edge");

@@ -36,9 +36,11 @@ use crate::writing::put_pipeline;
 
 // The instruction at an address, into a block for one.
 #[no_mangle]
-pub extern "C" fn trial_fetch(memory: &mut [u8], address: u64, block: &mut [u64]) {
-    let instruction = fetching::fetch(memory, address);
+pub extern "C" fn trial_fetch(memory: &mut [u8], address: u64, block: &mut [u64]) -> u64 {
+    let answer = fetching::fetch(memory, address);
+    let instruction = answer.instruction;
     put_instruction(block, 0, instruction);
+    answer.number
 }
 
 // A fresh machine record, with the registers and codes that the block holds.

@@ -3,7 +3,8 @@
 //! The two engines share what an instruction looks like (table, fetch, words,
 //! arithmetic, conditions) and nothing of how it is carried out, so that each
 //! is a check on the other. `account` derives from a plain history alone what
-//! the pipeline has to show.
+//! the pipeline has to show. `letter` has both engines once more, slow and with
+//! records that can hold anything.
 
 pub mod account;
 pub mod arithmetic;

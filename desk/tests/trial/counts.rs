@@ -10,6 +10,8 @@ use desk::second::table::{CALL, CMOV, JXX, OPQ, RET};
 const ORIGINS: [&str; 3] = ["fresh", "reached", "hand-made"];
 const STATUSES: [&str; 4] = ["AOK", "HLT", "ADR", "INS"];
 const BUDGETS: [&str; 5] = ["1", "2-9", "10-99", "100-9999", "10000 or more"];
+const SIZES: [&str; 4] = ["1", "2-255", "256-4095", "4096"];
+const LIMITS: [&str; 2] = ["not reached", "reached"];
 const LOGS: [&str; 3] = ["as long as the budget", "longer", "shorter"];
 const HELD: [&str; 13] = [
     "halt", "nop", "cmovXX", "irmovq", "rmmovq", "mrmovq", "OPq", "jXX", "call", "ret", "pushq",
@@ -17,34 +19,37 @@ const HELD: [&str; 13] = [
 ];
 const FAULTS: [&str; 6] = ["rA", "rB", "code", "move", "jump", "OPq"];
 
-/// Every class that has to occur, under its heading. An entry is counted by
-/// all the refusals that apply, what comes after the entries where none does;
-/// "refused for" names the one fault of a record that has no other.
+/// Every class that has to occur, under its heading. An entry's calls are
+/// counted by all the refusals that apply together, and by the rest only where
+/// none does; "refused for D" and the like name the one fault of a record that
+/// has no other.
 pub const CLASSES: &Classes = &[
     (
-        "plain::run",
-        &["nothing", "1", "3", "13", "4", "14", "34", "134"],
+        "plain::run refused for",
+        &["nothing", "1", "3", "1+3", "4", "1+4", "3+4", "1+3+4"],
     ),
-    ("plain::step", &["nothing", "1", "3", "13"]),
+    ("plain::step refused for", &["nothing", "1", "3", "1+3"]),
     (
-        "pipe::run",
+        "pipe::run refused for",
         &[
-            "nothing", "1", "3", "13", "4", "14", "34", "134", "5", "15", "35", "135", "45", "145",
-            "345", "1345",
+            "nothing", "1", "3", "1+3", "4", "1+4", "3+4", "1+3+4", "5", "1+5", "3+5", "1+3+5",
+            "4+5", "1+4+5", "3+4+5", "1+3+4+5",
         ],
     ),
     (
-        "pipe::run_unlogged",
-        &["nothing", "1", "3", "13", "5", "15", "35", "135"],
+        "pipe::run_unlogged refused for",
+        &["nothing", "1", "3", "1+3", "5", "1+5", "3+5", "1+3+5"],
     ),
     (
-        "pipe::clock",
-        &["nothing", "1", "3", "13", "5", "15", "35", "135"],
+        "pipe::clock refused for",
+        &["nothing", "1", "3", "1+3", "5", "1+5", "3+5", "1+3+5"],
     ),
     ("plain record", &ORIGINS),
     ("plain status given", &STATUSES),
     ("plain status left", &STATUSES),
+    ("plain memory", &SIZES),
     ("plain budget", &BUDGETS),
+    ("plain limit", &LIMITS),
     ("plain log", &LOGS),
     (
         "plain run",
@@ -53,7 +58,9 @@ pub const CLASSES: &Classes = &[
     ("pipeline record", &ORIGINS),
     ("pipeline status given", &STATUSES),
     ("pipeline status left", &STATUSES),
+    ("pipeline memory", &SIZES),
     ("pipeline budget", &BUDGETS),
+    ("pipeline limit", &LIMITS),
     ("pipeline logs", &LOGS),
     (
         "pipeline run",
@@ -113,10 +120,8 @@ pub const CLASSES: &Classes = &[
 
 /// The refusals that apply, as the classes name them.
 fn reasons_name(reasons: &[Refusal]) -> &'static str {
-    let text: String = reasons
-        .iter()
-        .map(|reason| reason.number().to_string())
-        .collect();
+    let numbers = reasons.iter().map(|reason| reason.number().to_string());
+    let text = numbers.collect::<Vec<String>>().join("+");
     let all = CLASSES.iter().flat_map(|(_, names)| names.iter());
     match text.as_str() {
         "" => "nothing",
@@ -133,6 +138,15 @@ fn status_name(status: Status) -> &'static str {
 
 fn origin_name(origin: Origin) -> &'static str {
     ORIGINS[origin as usize]
+}
+
+fn size_name(size: usize) -> &'static str {
+    match size {
+        0 | 1 => "1",
+        2..=255 => "2-255",
+        256..=4_095 => "256-4095",
+        _ => "4096",
+    }
 }
 
 fn budget_name(budget: u64) -> &'static str {
@@ -160,9 +174,9 @@ impl<R: Counted> Compared<'_, R> {
     }
 
     /// What is counted of both engines alike.
-    fn count(&self, tally: &mut Tally, entry: &'static str) {
+    fn count(&self, tally: &mut Tally, refused: &'static str) {
         let headings = &R::HEADINGS;
-        tally.count(entry, reasons_name(self.reasons));
+        tally.count(refused, reasons_name(self.reasons));
         let budget = self.given.budget;
         if self
             .given
@@ -178,7 +192,10 @@ impl<R: Counted> Compared<'_, R> {
         tally.count(headings.record, origin_name(self.origin));
         tally.count(headings.given, status_name(self.given.record.status()));
         tally.count(headings.left, status_name(self.left.record.status()));
+        tally.count(headings.memory, size_name(self.given.memory.len()));
         tally.count(headings.budget, budget_name(budget));
+        let reached = self.given.record.spent() + budget == R::LIMIT;
+        tally.count(headings.limit, LIMITS[usize::from(reached)]);
         for log in &self.given.logs {
             let longer = log.len() as u64 > budget;
             let name = if longer {
@@ -193,6 +210,8 @@ impl<R: Counted> Compared<'_, R> {
 
 /// The headings under which an engine's calls are counted.
 pub struct Headings {
+    memory: &'static str,
+    limit: &'static str,
     record: &'static str,
     given: &'static str,
     left: &'static str,
@@ -206,11 +225,13 @@ pub trait Counted: Engine {
     /// The heading of runs cut in two and taken apart.
     const RUNS: &'static str;
 
-    fn count(compared: &Compared<Self>, tally: &mut Tally, entry: &'static str);
+    fn count(compared: &Compared<Self>, tally: &mut Tally, refused: &'static str);
 }
 
 impl Counted for Machine {
     const HEADINGS: Headings = Headings {
+        memory: "plain memory",
+        limit: "plain limit",
         record: "plain record",
         given: "plain status given",
         left: "plain status left",
@@ -219,13 +240,15 @@ impl Counted for Machine {
     };
     const RUNS: &'static str = "plain run";
 
-    fn count(compared: &Compared<Machine>, tally: &mut Tally, entry: &'static str) {
-        compared.count(tally, entry);
+    fn count(compared: &Compared<Machine>, tally: &mut Tally, refused: &'static str) {
+        compared.count(tally, refused);
     }
 }
 
 impl Counted for Pipeline {
     const HEADINGS: Headings = Headings {
+        memory: "pipeline memory",
+        limit: "pipeline limit",
         record: "pipeline record",
         given: "pipeline status given",
         left: "pipeline status left",
@@ -234,8 +257,8 @@ impl Counted for Pipeline {
     };
     const RUNS: &'static str = "pipeline run";
 
-    fn count(compared: &Compared<Pipeline>, tally: &mut Tally, entry: &'static str) {
-        compared.count(tally, entry);
+    fn count(compared: &Compared<Pipeline>, tally: &mut Tally, refused: &'static str) {
+        compared.count(tally, refused);
         compared.count_record(tally);
     }
 }

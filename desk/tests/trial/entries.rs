@@ -13,7 +13,13 @@ use desk::second::pipeline::Logs;
 // builds the archive, which desk/check does; only this test links it.
 #[link(name = "trial", kind = "static")]
 extern "C" {
-    fn trial_fetch(memory: *mut u8, bytes: usize, address: u64, block: *mut u64, words: usize);
+    fn trial_fetch(
+        memory: *mut u8,
+        bytes: usize,
+        address: u64,
+        block: *mut u64,
+        words: usize,
+    ) -> u64;
     fn trial_plain_start(block: *mut u64, words: usize, address: u64);
     fn trial_plain_step(block: *mut u64, words: usize, memory: *mut u8, bytes: usize) -> u64;
     fn trial_plain_run(
@@ -51,6 +57,8 @@ extern "C" {
 /// entry left, and answer 0 or the number of the refusal.
 pub struct Entry<R> {
     pub name: &'static str,
+    /// The heading under which its refusals are counted.
+    pub refused: &'static str,
     pub way: Way,
     pub product: fn(&mut Call<R>) -> u64,
     pub letter: fn(&mut Call<R>) -> u64,
@@ -58,6 +66,7 @@ pub struct Entry<R> {
 
 pub const PLAIN_RUN: Entry<Machine> = Entry {
     name: "plain::run",
+    refused: "plain::run refused for",
     way: Way::Logged,
     product: plain_run,
     letter: |call| {
@@ -68,6 +77,7 @@ pub const PLAIN_RUN: Entry<Machine> = Entry {
 
 pub const PLAIN_STEP: Entry<Machine> = Entry {
     name: "plain::step",
+    refused: "plain::step refused for",
     way: Way::Single,
     product: plain_step,
     letter: |call| number(call.record.step(&mut call.memory)),
@@ -75,6 +85,7 @@ pub const PLAIN_STEP: Entry<Machine> = Entry {
 
 pub const PIPE_RUN: Entry<Pipeline> = Entry {
     name: "pipe::run",
+    refused: "pipe::run refused for",
     way: Way::Logged,
     product: pipe_run,
     letter: |call| {
@@ -86,6 +97,7 @@ pub const PIPE_RUN: Entry<Pipeline> = Entry {
 
 pub const PIPE_RUN_UNLOGGED: Entry<Pipeline> = Entry {
     name: "pipe::run_unlogged",
+    refused: "pipe::run_unlogged refused for",
     way: Way::Unlogged,
     product: pipe_run_unlogged,
     letter: |call| number(call.record.run_unlogged(&mut call.memory, call.budget)),
@@ -93,6 +105,7 @@ pub const PIPE_RUN_UNLOGGED: Entry<Pipeline> = Entry {
 
 pub const PIPE_CLOCK: Entry<Pipeline> = Entry {
     name: "pipe::clock",
+    refused: "pipe::clock refused for",
     way: Way::Single,
     product: pipe_clock,
     letter: |call| number(call.record.clock(&mut call.memory)),
@@ -144,7 +157,7 @@ fn two(logs: &mut [Vec<u64>]) -> &mut [Vec<u64>; 2] {
     logs.try_into().expect("two logs are lent")
 }
 
-fn number(answer: Result<(), Refusal>) -> u64 {
+pub fn number(answer: Result<(), Refusal>) -> u64 {
     answer.map_or_else(Refusal::number, |()| 0)
 }
 
@@ -230,17 +243,18 @@ fn pipe_run(call: &mut Call<Pipeline>) -> u64 {
     })
 }
 
-/// What the product fetches.
-pub fn fetch(memory: &mut [u8], address: u64) -> Instruction {
+/// What the product answers to a fetch: the number, and the instruction.
+pub fn fetch(memory: &mut [u8], address: u64) -> (u64, Instruction) {
     let mut block = [0; INSTRUCTION];
-    unsafe {
+    let answer = unsafe {
         trial_fetch(
             memory.as_mut_ptr(),
             memory.len(),
             address,
             block.as_mut_ptr(),
             block.len(),
-        );
-    }
-    instruction(&block).expect("an instruction")
+        )
+    };
+    let fetched = instruction(&block).expect("an instruction");
+    (answer, fetched)
 }

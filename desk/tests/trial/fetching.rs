@@ -2,7 +2,7 @@
 //! address.
 
 use crate::common::tally::{Classes, Tally};
-use crate::entries::fetch;
+use crate::entries::{fetch, number};
 use desk::generate::Calls;
 use desk::second::letter;
 use desk::second::machine::MEMORY_LIMIT;
@@ -16,7 +16,7 @@ const CLASSES: &Classes = &[
             "popq", "HLT", "ADR", "INS",
         ],
     ),
-    ("memory", &["empty", "1 to 4096", "over 4096"]),
+    ("refused for memory", &["empty", "no", "over 4096"]),
     (
         "address",
         &[
@@ -30,23 +30,23 @@ const CLASSES: &Classes = &[
 
 #[test]
 fn fetching_is_the_letters_equal() {
-    let number = if cfg!(debug_assertions) {
+    let calls_made = if cfg!(debug_assertions) {
         20_000
     } else {
         200_000
     };
     let mut calls = Calls::new(0xfe7c);
     let mut tally = Tally::default();
-    for turn in 0..number {
+    for turn in 0..calls_made {
         let (mut memory, address) = calls.fetch();
         let given = memory.clone();
         let product = fetch(&mut memory, address);
-        let expected = letter::fetch(&given, address);
-        assert_eq!(product, expected, "call {turn}");
+        let (answer, expected) = letter::fetch_open(&given, address);
+        assert_eq!(product, (number(answer), expected), "call {turn}");
         assert!(memory == given, "call {turn}: fetching has written");
         count(&mut tally, &given, &expected);
     }
-    println!("compared {number} fetches");
+    println!("compared {calls_made} fetches");
     println!("{}", tally.table(CLASSES));
     tally.check(CLASSES, 1);
 }
@@ -57,14 +57,16 @@ fn count(tally: &mut Tally, memory: &[u8], fetched: &letter::Instruction) {
         Status::Aok => names[usize::from(fetched.code) - 1],
         status => status.name(),
     };
-    tally.count("fetched", name);
     let size = memory.len();
+    if (1..=MEMORY_LIMIT).contains(&size) {
+        tally.count("fetched", name);
+    }
     let name = match size {
         0 => "empty",
-        1..=MEMORY_LIMIT => "1 to 4096",
+        1..=MEMORY_LIMIT => "no",
         _ => "over 4096",
     };
-    tally.count("memory", name);
+    tally.count("refused for memory", name);
     let (size, address) = (size as u64, fetched.address);
     let name = match address {
         _ if address > u64::MAX - 10 => "next address wraps",

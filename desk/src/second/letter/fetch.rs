@@ -1,7 +1,8 @@
 //! Fetching, check after check.
 
+use super::refusals::{lowest, of_memory};
 use super::Instruction;
-use crate::second::machine::{Status, NONE};
+use crate::second::machine::{Refusal, Status, NONE};
 use crate::second::table::NOP;
 
 /// Length, number of functions, whether rA and whether rB is named, by code.
@@ -24,10 +25,25 @@ const TABLE: [(u64, u8, bool, bool); 16] = [
     (1, 0, false, false),
 ];
 
-/// The instruction at an address. One fetched with a bad status travels as a
-/// nop with that status, and its next address is its own.
-pub fn fetch(memory: &[u8], address: u64) -> Instruction {
-    parse(memory, address).unwrap_or_else(|status| Instruction {
+/// Fetching as an operation of its own, with refusal 1 and the instruction.
+/// Refused, it gives what a fetch outside memory gives.
+pub fn fetch_open(memory: &[u8], address: u64) -> (Result<(), Refusal>, Instruction) {
+    let reasons: Vec<Refusal> = of_memory(memory).into_iter().collect();
+    match lowest(&reasons) {
+        Ok(()) => (Ok(()), fetch(memory, address)),
+        refused => (refused, stopping(address, Status::Adr)),
+    }
+}
+
+/// The instruction at an address.
+pub(super) fn fetch(memory: &[u8], address: u64) -> Instruction {
+    parse(memory, address).unwrap_or_else(|status| stopping(address, status))
+}
+
+/// An instruction fetched with a bad status travels as a nop with that status,
+/// and its next address is its own.
+fn stopping(address: u64, status: Status) -> Instruction {
+    Instruction {
         address,
         status,
         code: NOP,
@@ -36,7 +52,7 @@ pub fn fetch(memory: &[u8], address: u64) -> Instruction {
         rb: NONE,
         constant: 0,
         next: address,
-    })
+    }
 }
 
 fn parse(memory: &[u8], address: u64) -> Result<Instruction, Status> {

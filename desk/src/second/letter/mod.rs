@@ -17,7 +17,8 @@ mod plain;
 mod refusals;
 mod work;
 
-pub use fetch::fetch;
+use fetch::fetch;
+pub use fetch::fetch_open;
 pub use instruction::Instruction;
 pub use pipeline::{Accessed, Decoded, Executed, Pipeline, Retired};
 pub use plain::Machine;
