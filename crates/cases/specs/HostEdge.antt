@@ -38,24 +38,28 @@ word a r = number 8 (r .memory) a
 abbrev refuses : String → ℕ → (memory registers result codes budget : ℕ) → Row
 refuses s n m r b c y = numbers s (edgeRefusal m r b c y ∷ []) (n ∷ [])
 
-unfoldable pub rowsOfEdge : List Row
-rowsOfEdge =
+unfoldable pub rowsOfReplays : List Row
+rowsOfReplays =
     -- "Result words: status (AOK if the budget was spent), last address, codes, retired, cycles."
-    replays "R15.3 Result words at a stop" 3 3 0x10_10_00 1 3 50
+    replays "R15.3 Result words at a stop" 3 3 0x10_10_00 1 3 9
     ((answer, 0) ∷ (result 0, 2) ∷ (result 1, 2) ∷ (result 2, 3) ∷ (result 3, 2) ∷ (result 4, 6) ∷ [])
     ∷ replays "R15.3 AOK if the budget was spent" 3 3 0x10_10_00 1 3 5
     ((answer, 0) ∷ (result 0, 1) ∷ (result 1, 1) ∷ (result 2, 3) ∷ (result 3, 1) ∷ (result 4, 5) ∷ [])
     ∷ replays "R11.4 last address: the start, before any retired" 3 3 0x10_10_00 1 3 4 ((result 0, 1) ∷ (result 1, 1) ∷ (result 3, 0) ∷ (result 4, 4) ∷ [])
     -- "leaves the final registers and memory in the lent bytes"
-    ∷ replays "R15.3 the final registers, each in its place" 12 3 0x20_e0_00 0 4 50
+    ∷ replays "R15.3 the final registers, each in its place" 12 3 0x20_e0_00 0 4 9
     ((register 0, 114) ∷ (register 1, 101) ∷ (register 4, 104) ∷ (register 13, 113) ∷ (register 14, 114) ∷ [])
-    ∷ replays "R15.3 the final memory" 104 3 0xa0_3f_00 0 4 50 ((register 4, 96) ∷ (word 96, 103) ∷ [])
+    ∷ replays "R15.3 the final memory" 104 3 0xa0_3f_00 0 4 9 ((register 4, 96) ∷ (word 96, 103) ∷ [])
     -- "codes as 4ZF + 2SF + OF"
     ∷ replays "R15.1 codes: OF" 1 1 0x00 0 1 5 ((result 2, 1) ∷ [])
-    ∷ replays "R15.1 codes: SF, by which cmovl moves" 3 3 0x22_10_00 0 2 50 ((result 2, 2) ∷ (register 0, 101) ∷ [])
-    ∷ replays "R15.1 codes: ZF, by which cmove moves" 3 3 0x23_10_00 0 4 50 ((result 2, 4) ∷ (register 0, 101) ∷ [])
-    -- the refusals, at both ends
-    ∷ refuses "R14.1 1: N is 0" 1 0 120 40 7 1
+    ∷ replays "R15.1 codes: SF, by which cmovl moves" 3 3 0x22_10_00 0 2 9 ((result 2, 2) ∷ (register 0, 101) ∷ [])
+    ∷ replays "R15.1 codes: ZF, by which cmove moves" 3 3 0x23_10_00 0 4 9 ((result 2, 4) ∷ (register 0, 101) ∷ [])
+    ∷ []
+
+-- each refusal at both ends
+unfoldable pub rowsOfRefusals : List Row
+rowsOfRefusals =
+    refuses "R14.1 1: N is 0" 1 0 120 40 7 1
     ∷ refuses "R14.1 1: N is above 4,096" 1 4097 120 40 7 1
     ∷ refuses "R15.2 2: registers not 120 bytes: one less" 2 1 119 40 7 1
     ∷ refuses "R15.2 2: registers not 120 bytes: one more" 2 1 121 40 7 1
@@ -67,10 +71,10 @@ rowsOfEdge =
     ∷ refuses "R14.2 0: each at its end" 0 4096 120 40 7 262145
     ∷ []
 
--- every row holds: none is failing
-pub edge-rows-hold : failing rowsOfEdge ≡ []
-unfolding failing computing rowsOfEdge
-edge-rows-hold = refl
+-- every row holds: of each list none is failing
+pub edge-rows-hold : (failing rowsOfReplays ≡ []) × (failing rowsOfRefusals ≡ [])
+unfolding failing computing rowsOfReplays rowsOfRefusals
+edge-rows-hold = (refl, refl)
 
 -- "number, nothing changed", by whatever number it is refused
 pub edge-unchanged : (m : Memory) (registers result : List ℕ) (start codes budget : ℕ)
