@@ -1,19 +1,20 @@
 -- The wrong replays at the host edge: each at the image `00` with all registers 0, which halts in cycle 5.
 use Prim.Native.Nat.{ℕ, suc}
 use mathlib.Core.List.{List, [], _∷_}
-use mathlib.Core.Path.{_≡_, refl}
+use mathlib.Core.Path.{refl}
 use lib.ListN.{getD, drop, replicate}
 use Rattle.machine.specs.Memory.{Memory}
-use Rattle.edge.specs.Edge.{Edge, edge, wordsIn, withWords, codesFrom, edgeRefusal, resultWords, edgeDone, edgeRun, replayed}
+use Rattle.edge.specs.Edge.{Edge, edge, wordsIn, withWords}
 use Rattle.cases.specs.Promises.{host-edge}
-use Rattle.cases.specs.Wrong.{FallsFoul, PipeFoul, refused, differs}
+use Rattle.cases.specs.Computing.{computing}
+use Rattle.cases.specs.Wrong.{FallsFoul, refused, differs}
 
 abbrev halting : Memory × List ℕ × List ℕ × ℕ × ℕ × ℕ
 halting = (0 ∷ [], replicate 120 0, replicate 40 0, 0, 4, 5)
 
 -- one that refuses all, by any number
 pub edge-refuses : (n : ℕ) → FallsFoul host-edge (λ x. edge (suc n) (x .0) (x .1) (x .2)) halting
-unfolding PipeFoul wordsIn withWords codesFrom edgeRefusal resultWords edgeDone edgeRun replayed
+unfolding computing
 edge-refuses n = differs (λ r. refused (r .answer)) 1 0 refl
 
 -- one that always answers HLT, whatever else another one, f, answers: at `c0` its status word is 2, where it ought to be INS, 4
@@ -21,31 +22,15 @@ abbrev withHlt : Edge → List ℕ → Edge
 withHlt o result = edge (o .answer) (o .memory) (o .registers) (withWords (2 ∷ drop 1 (wordsIn 5 (o .result) 0)) result 0)
 
 pub edge-halts : (f : host-edge .Given → Edge) → FallsFoul host-edge (λ x. withHlt (f x) (x .2)) (0xc0 ∷ [], replicate 120 0, replicate 40 0, 0, 4, 5)
-unfolding PipeFoul wordsIn withWords codesFrom edgeRefusal resultWords edgeDone edgeRun replayed
+unfolding computing
 edge-halts f = differs (λ r. getD (r .result) 0 0) 2 4 refl
 
 -- one that leaves all as it was: the status word stays 0, where it ought to be HLT, 2
 pub edge-idles : FallsFoul host-edge (λ x. edge 0 (x .0) (x .1) (x .2)) halting
-unfolding PipeFoul wordsIn withWords codesFrom edgeRefusal resultWords edgeDone edgeRun replayed
+unfolding computing
 edge-idles = differs (λ r. getD (r .result) 0 0) 0 2 refl
 
 -- one that makes up cycles: its fifth word is 6, where it ought to be 5
 pub edge-makes-up : FallsFoul host-edge (λ x. edge 0 (x .0) (x .1) (withWords (2 ∷ 0 ∷ 4 ∷ 1 ∷ 6 ∷ []) (x .2) 0)) halting
-unfolding PipeFoul wordsIn withWords codesFrom edgeRefusal resultWords edgeDone edgeRun replayed
+unfolding computing
 edge-makes-up = differs (λ r. getD (r .result) 32 0) 6 5 refl
-
--- nop, nop, nop, halt with codes 5: HLT, last address 3, codes 5, 4 retired, 8 cycles, a word each
-pub edge-words : wordsIn 5 (replayed (0x10 ∷ 0x10 ∷ 0x10 ∷ 0 ∷ []) (replicate 120 0) (replicate 40 0) 0 5 100 .result) 0 ≡ 2 ∷ 3 ∷ 5 ∷ 4 ∷ 8 ∷ []
-unfolding PipeFoul wordsIn withWords codesFrom edgeRefusal resultWords edgeDone edgeRun replayed
-edge-words = refl
-
--- irmovq $1, rax, halt: the register block holds 1 afterwards, and then zeros
-pub edge-registers : wordsIn 15 (replayed (0x30 ∷ 0xf0 ∷ 1 ∷ replicate 8 0) (replicate 120 0) (replicate 40 0) 0 4 100 .registers) 0 ≡ 1 ∷ replicate 14 0
-unfolding PipeFoul wordsIn withWords codesFrom edgeRefusal resultWords edgeDone edgeRun replayed
-edge-registers = refl
-
--- "Lowest number wins": with all wrong at first, and one more put right each time
-pub edge-lowest : (edgeRefusal 0 0 0 8 0 ≡ 1) × (edgeRefusal 1 0 0 8 0 ≡ 2) × (edgeRefusal 1 120 0 8 0 ≡ 3) × (edgeRefusal 1 120 0 8 1 ≡ 4)
-    × (edgeRefusal 1 120 40 8 1 ≡ 5) × (edgeRefusal 1 120 40 7 1 ≡ 0)
-unfolding PipeFoul edgeRefusal
-edge-lowest = (refl, refl, refl, refl, refl, refl)

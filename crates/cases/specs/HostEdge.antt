@@ -1,5 +1,5 @@
 -- The host edge's rules, rows as in the crate records.
-use Prim.Native.Nat.{ℕ, _*_}
+use Prim.Native.Nat.{ℕ, zero, suc, _+_, _*_}
 use Prim.Native.String.{String}
 use mathlib.Core.Bool.{false}
 use mathlib.Core.List.{List, [], _∷_}
@@ -8,18 +8,19 @@ use lib.Dec.{eqb}
 use lib.ListN.{length, replicate}
 use Rattle.machine.specs.Words.{number}
 use Rattle.machine.specs.Memory.{Memory}
-use Rattle.edge.specs.Edge.{Edge, edge, withWords, edgeRefusal, replayed}
+use Rattle.edge.specs.Edge.{Edge, edge, edgeRefusal, replayed}
 use Rattle.records.specs.Given.{image}
 use Rattle.records.specs.Looks.{Row, Look, answers, numbers, failing}
 use Rattle.cases.specs.Computing.{computing}
 
--- what is lent where no more is said: register q holds 100 + q, a result block of nines
-abbrev block : List ℕ
-block =
-    withWords (100 ∷ 101 ∷ 102 ∷ 103 ∷ 104 ∷ 105 ∷ 106 ∷ 107 ∷ 108 ∷ 109 ∷ 110 ∷ 111 ∷ 112 ∷ 113 ∷ 114 ∷ []) (replicate 120 0) 0
+-- n registers from one that holds v on, each holding one more: eight bytes each, least first
+abbrev rising : (v n : ℕ) → List ℕ
+rising v zero = []
+rising v (suc n) = v ∷ 0 ∷ 0 ∷ 0 ∷ 0 ∷ 0 ∷ 0 ∷ 0 ∷ rising (v + 1) n
 
+-- what is lent: register q holds 100 + q, and the result block nines
 abbrev replays : String → (size bytes written start codes budget : ℕ) → List (Look Edge) → Row
-replays s n k x a c b = answers s (replayed (image n k x) block (replicate 40 9) a c b)
+replays s n k x a c b = answers s (replayed (image n k x) (rising 100 15) (replicate 40 9) a c b)
 
 -- the answer, a word of the register block and of the result block by its place, a word of memory by its address
 abbrev answer : Edge → ℕ
@@ -38,24 +39,32 @@ word a r = number 8 (r .memory) a
 abbrev refuses : String → ℕ → (memory registers result codes budget : ℕ) → Row
 refuses s n m r b c y = numbers s (edgeRefusal m r b c y ∷ []) (n ∷ [])
 
-unfoldable pub rowsOfEdge : List Row
-rowsOfEdge =
+unfoldable pub rowsOfReplays : List Row
+rowsOfReplays =
     -- "Result words: status (AOK if the budget was spent), last address, codes, retired, cycles."
-    replays "R15.3 Result words at a stop" 3 3 0x10_10_00 1 3 50
+    replays "R15.3 Result words at a stop" 3 3 0x10_10_00 1 3 9
     ((answer, 0) ∷ (result 0, 2) ∷ (result 1, 2) ∷ (result 2, 3) ∷ (result 3, 2) ∷ (result 4, 6) ∷ [])
     ∷ replays "R15.3 AOK if the budget was spent" 3 3 0x10_10_00 1 3 5
     ((answer, 0) ∷ (result 0, 1) ∷ (result 1, 1) ∷ (result 2, 3) ∷ (result 3, 1) ∷ (result 4, 5) ∷ [])
     ∷ replays "R11.4 last address: the start, before any retired" 3 3 0x10_10_00 1 3 4 ((result 0, 1) ∷ (result 1, 1) ∷ (result 3, 0) ∷ (result 4, 4) ∷ [])
-    -- "leaves the final registers and memory in the lent bytes"
-    ∷ replays "R15.3 the final registers, each in its place" 12 3 0x20_e0_00 0 4 50
-    ((register 0, 114) ∷ (register 1, 101) ∷ (register 4, 104) ∷ (register 13, 113) ∷ (register 14, 114) ∷ [])
-    ∷ replays "R15.3 the final memory" 104 3 0xa0_3f_00 0 4 50 ((register 4, 96) ∷ (word 96, 103) ∷ [])
     -- "codes as 4ZF + 2SF + OF"
     ∷ replays "R15.1 codes: OF" 1 1 0x00 0 1 5 ((result 2, 1) ∷ [])
-    ∷ replays "R15.1 codes: SF, by which cmovl moves" 3 3 0x22_10_00 0 2 50 ((result 2, 2) ∷ (register 0, 101) ∷ [])
-    ∷ replays "R15.1 codes: ZF, by which cmove moves" 3 3 0x23_10_00 0 4 50 ((result 2, 4) ∷ (register 0, 101) ∷ [])
-    -- the refusals, at both ends
-    ∷ refuses "R14.1 1: N is 0" 1 0 120 40 7 1
+    ∷ replays "R15.1 codes: SF, by which jl goes to 10" 11 9 0x72_0a00000000000000 0 2 9 ((result 1, 10) ∷ (result 2, 2) ∷ [])
+    ∷ replays "R15.1 codes: ZF, by which je goes to 10" 11 9 0x73_0a00000000000000 0 4 9 ((result 1, 10) ∷ (result 2, 4) ∷ [])
+    ∷ []
+
+-- "leaves the final registers and memory in the lent bytes"
+unfoldable pub rowsOfBytes : List Row
+rowsOfBytes =
+    replays "R15.3 the final registers, each in its place" 12 3 0x20_e0_00 0 4 9
+    ((register 0, 114) ∷ (register 1, 101) ∷ (register 4, 104) ∷ (register 13, 113) ∷ (register 14, 114) ∷ [])
+    ∷ replays "R15.3 the final memory" 104 3 0xa0_3f_00 0 4 9 ((register 4, 96) ∷ (word 96, 103) ∷ [])
+    ∷ []
+
+-- each refusal at both ends
+unfoldable pub rowsOfRefusals : List Row
+rowsOfRefusals =
+    refuses "R14.1 1: N is 0" 1 0 120 40 7 1
     ∷ refuses "R14.1 1: N is above 4,096" 1 4097 120 40 7 1
     ∷ refuses "R15.2 2: registers not 120 bytes: one less" 2 1 119 40 7 1
     ∷ refuses "R15.2 2: registers not 120 bytes: one more" 2 1 121 40 7 1
@@ -65,12 +74,17 @@ rowsOfEdge =
     ∷ refuses "R15.2 4: result block not 40 bytes: one more" 4 1 120 41 7 1
     ∷ refuses "R14.1 5: codes over 7" 5 1 120 40 8 1
     ∷ refuses "R14.2 0: each at its end" 0 4096 120 40 7 262145
+    -- "Lowest number wins": with all wrong at first, and the lowest put right each time
+    ∷ refuses "R14.2 1 before 2 to 5" 1 0 0 0 8 0
+    ∷ refuses "R14.2 2 before 3 to 5" 2 1 0 0 8 0
+    ∷ refuses "R14.2 3 before 4 and 5" 3 1 120 0 8 0
+    ∷ refuses "R14.2 4 before 5" 4 1 120 0 8 1
     ∷ []
 
--- every row holds: none is failing
-pub edge-rows-hold : failing rowsOfEdge ≡ []
-unfolding failing computing rowsOfEdge
-edge-rows-hold = refl
+-- every row holds: of each list none is failing
+pub edge-rows-hold : (failing rowsOfReplays ≡ []) × (failing rowsOfBytes ≡ []) × (failing rowsOfRefusals ≡ [])
+unfolding failing computing rowsOfReplays rowsOfBytes rowsOfRefusals
+edge-rows-hold = (refl, refl, refl)
 
 -- "number, nothing changed", by whatever number it is refused
 pub edge-unchanged : (m : Memory) (registers result : List ℕ) (start codes budget : ℕ)

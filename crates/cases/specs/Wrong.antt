@@ -13,13 +13,13 @@ use Rattle.machine.specs.Words.{number}
 use Rattle.machine.specs.Memory.{Memory, Registers}
 use Rattle.machine.specs.Plain.{Plain, plainOf, plainStart, isStopped, step}
 use Rattle.machine.specs.Prediction.{asIn01}
-use Rattle.machine.specs.Charges.{charges, due, dueCycles, kindsOf}
+use Rattle.machine.specs.Charges.{due}
 use Rattle.machine.specs.Pipeline.{Piped, pipeStart}
-use Rattle.machine.specs.Runs.{PlainAnswer, PipeAnswer, plainAnswer, pipeAnswer, plainLimit, plainStep, plainRun, pipeBy, pipeClock, pipeRunUnlogged, laid}
+use Rattle.machine.specs.Runs.{PlainAnswer, PipeAnswer, plainAnswer, pipeAnswer, plainLimit, plainRun, pipeBy, laid}
 use Rattle.account.specs.Sight.{both}
 use Rattle.account.specs.Statement.{Start, plainFrom, keptOf, Agrees}
 use Rattle.cases.specs.Names.{Status, Codes, Machine, Pipeline, hlt}
-use Rattle.cases.specs.Asked.{holds}
+use Rattle.cases.specs.Computing.{computing}
 use Rattle.cases.specs.Promises.{Operation, Fits, Promise, plain-step, plain-run, pipe-clock, pipe-run, pipe-run-unlogged}
 
 -- THE SCHEME: a replay, an input, and a number of its answer there that is not the promised one
@@ -78,13 +78,13 @@ log = replicate 100 0
 
 -- from this start and with this budget it falls foul of the promise of every entry: run and step; run, clock and unlogged run
 unfoldable pub PlainFoul : PlainReplay → Start → ℕ → Type 0
-unfolding holds plainStep
+unfolding computing
 PlainFoul f t budget =
     FallsFoul plain-run (asPlainRun f) (plainAt t, t .memory, budget, log)
     × FallsFoul plain-step (asPlainStep f) (plainAt t, t .memory)
 
 unfoldable pub PipeFoul : PipeReplay → Start → ℕ → Type 0
-unfolding holds pipeClock pipeRunUnlogged
+unfolding computing
 PipeFoul f t budget =
     FallsFoul pipe-run (asPipeRun f) (pipeAt t, t .memory, budget, log, log)
     × FallsFoul pipe-clock (asPipeClock f) (pipeAt t, t .memory)
@@ -358,17 +358,17 @@ pipe-halts-disagrees f c (suc (suc i)) a = true≢false (a .exactly .performed 1
 
 -- by clock 3 none is due, and it has stopped with HLT
 pub pipe-whole-disagrees : (f : PipeReplay) → Disagrees (pipeWhole f) push 3
-unfolding PipeFoul plainFrom due charges
+unfolding PipeFoul plainFrom
 pipe-whole-disagrees f zero a = differs statusNumber 2 1 refl (a .status)
 pipe-whole-disagrees f (suc i) a = omega (arith, a .exactly .arrived 0 (omega arith))
 
 pub pipe-makes-up-disagrees : Disagrees (pipeMakesUp (λ k. k + 4)) turn 8
-unfolding PipeFoul plainFrom due charges
+unfolding PipeFoul plainFrom
 pipe-makes-up-disagrees i a = differs itself 6 8 refl (agreed _ _ _ _ a)
 
 -- but not memory or codes in mid-run, which only the promises of the entries fix
 pub stores-at-once-agrees : Agrees asIn01 (plainFrom push) (after (pipeStoresAtOnce right) push 3) 3 0
-unfolding PipeFoul plainFrom due charges dueCycles kindsOf keptOf
+unfolding PipeFoul plainFrom keptOf
 stores-at-once-agrees =
     record {
       retired = refl;

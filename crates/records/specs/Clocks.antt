@@ -57,7 +57,7 @@ rowsOfClock =
     ∷ fetchesFrom "R8.5 if M holds a jump whose condition was false, that jump's next address" (M (jump 3 40 1) 0 0 false ∷ []) 10
     ∷ fetchesFrom "R8.5 a jump in M whose condition was true" (M (jump 3 40 1) 0 0 true ∷ []) 30
     ∷ fetchesFrom "R8.5 a jump that is always taken, its condition false all the same" (M (jump 0 40 1) 0 0 false ∷ []) 10
-    ∷ fetchesFrom "R8.5 the next address that the jump carries" (M (instruction 7 3 15 15 40 20 1) 0 0 false ∷ []) 21
+    ∷ fetchesFrom "R14.5 the next address that the jump carries" (M (instruction 7 3 15 15 40 20 1) 0 0 false ∷ []) 21
     ∷ fetchesFrom "R8.5 a false cmov in M is no jump" (M (cmov 3 0 1 1) 0 0 false ∷ []) 30
     ∷ fetchesFrom "R8.5 if W holds ret, the word it read" (W (ret 1) 0 true 50 aok ∷ []) 50
     ∷ fetchesFrom "R8.5 a popq in W is no ret" (W (popq 0 1) 0 true 50 aok ∷ []) 30
