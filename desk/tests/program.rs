@@ -6,9 +6,14 @@ use desk::generate::{Generator, Kind};
 use desk::programs;
 use desk::second;
 use desk::second::machine::REGISTER_NAMES;
+use std::fs::File;
 use std::io::{ErrorKind, Write};
+use std::net::Shutdown;
+use std::os::fd::OwnedFd;
+use std::os::unix::net::UnixStream;
 use std::path::{Path, PathBuf};
-use std::process::{Command, Stdio};
+use std::process::{Child, Command, Output, Stdio};
+use std::time::Duration;
 
 /// A file of the repository.
 fn path(name: &str) -> PathBuf {
@@ -19,13 +24,19 @@ fn read(name: &str) -> Vec<u8> {
     std::fs::read(path(name)).unwrap_or_else(|error| panic!("{name}: {error}"))
 }
 
+/// y86run, started on an input.
+fn started(input: Stdio) -> Child {
+    Command::new(path("target/bin/y86run"))
+        .stdin(input)
+        .stdout(Stdio::piped())
+        .stderr(Stdio::piped())
+        .spawn()
+        .expect("target/bin/y86run, which `rt check y86run` builds")
+}
+
 /// What y86run writes for an image on its standard input.
 fn y86run(image: &[u8]) -> String {
-    let mut child = Command::new(path("target/bin/y86run"))
-        .stdin(Stdio::piped())
-        .stdout(Stdio::piped())
-        .spawn()
-        .expect("target/bin/y86run, which `rt check y86run` builds");
+    let mut child = started(Stdio::piped());
     let mut input = child.stdin.take().expect("its input");
     // It reads no further than it has to, so a long image may find it gone.
     if let Err(error) = input.write_all(image) {
@@ -34,7 +45,19 @@ fn y86run(image: &[u8]) -> String {
     drop(input);
     let output = child.wait_with_output().expect("its output");
     assert!(output.status.success());
+    assert_eq!(output.stderr, b"");
     String::from_utf8(output.stdout).expect("text")
+}
+
+/// No verdict: nothing on standard output, and a line on standard error.
+fn cannot_be_read(output: &Output) {
+    assert_eq!(output.stdout, b"");
+    assert_eq!(output.stderr, b"y86run: standard input cannot be read\n");
+}
+
+/// A stream as a program's input.
+fn as_input(stream: UnixStream) -> Stdio {
+    Stdio::from(OwnedFd::from(stream))
 }
 
 /// Images of every kind, as they are: the program starts them at 0 with
@@ -113,4 +136,87 @@ fn through_the_edge(image: &[u8]) -> String {
         }
     }
     text
+}
+
+#[test]
+fn an_input_that_cannot_be_read_gets_no_verdict() {
+    let folder = File::open(path("examples")).expect("a folder");
+    let output = started(Stdio::from(folder)).wait_with_output();
+    cannot_be_read(&output.expect("its output"));
+}
+
+/// A socket that is closed while it holds bytes that nobody read is reset: its
+/// peer reads what was sent and then fails.
+#[test]
+fn an_input_that_fails_after_some_bytes_gets_no_verdict() {
+    for sent in [1, 100, 4_096] {
+        let (mut ours, mut theirs) = UnixStream::pair().expect("a pair");
+        theirs.write_all(&[0]).expect("a byte that nobody reads");
+        ours.write_all(&vec![0; sent]).expect("the bytes");
+        drop(ours);
+        let output = started(as_input(theirs)).wait_with_output();
+        cannot_be_read(&output.expect("its output"));
+    }
+}
+
+/// The state of a process, as the system names it: S sleeps, T is stopped.
+fn state(child: &Child) -> char {
+    let file = format!("/proc/{}/stat", child.id());
+    let line = std::fs::read_to_string(file).expect("its state");
+    let (_, fields) = line.rsplit_once(") ").expect("its fields");
+    fields.chars().next().expect("its first field")
+}
+
+fn wait_for(child: &Child, wanted: char) {
+    for _ in 0..2_000 {
+        if state(child) == wanted {
+            return;
+        }
+        std::thread::sleep(Duration::from_millis(5));
+    }
+    panic!("y86run never came to state {wanted}");
+}
+
+fn signal(child: &Child, name: &str) {
+    let id = child.id().to_string();
+    let sent = Command::new("kill").args([name, &id]).status();
+    assert!(sent.expect("the program kill").success());
+}
+
+/// A read of a socket with a time limit is interrupted when its process is
+/// stopped and goes on: it is tried again, and the image is whole.
+#[test]
+fn an_interrupted_read_is_tried_again() {
+    let image = programs::listing_001();
+    let (mut ours, theirs) = UnixStream::pair().expect("a pair");
+    let limit = Duration::from_secs(600);
+    theirs.set_read_timeout(Some(limit)).expect("a time limit");
+    let child = started(as_input(theirs));
+    for part in image.chunks(40) {
+        wait_for(&child, 'S');
+        signal(&child, "-STOP");
+        wait_for(&child, 'T');
+        signal(&child, "-CONT");
+        wait_for(&child, 'S');
+        ours.write_all(part).expect("a part of the image");
+    }
+    ours.shutdown(Shutdown::Write).expect("the end");
+    let output = child.wait_with_output().expect("its output");
+    assert_eq!(output.stderr, b"");
+    let text = String::from_utf8(output.stdout).expect("text");
+    assert_eq!(text, second::y86run(&image));
+}
+
+/// A report that cannot be handed over is said to be lost.
+#[test]
+fn an_output_that_cannot_be_written_is_told() {
+    let full = File::options().write(true).open("/dev/full");
+    let output = Command::new(path("target/bin/y86run"))
+        .stdin(File::open(path("examples/p1.img")).expect("an image"))
+        .stdout(full.expect("a device that is always full"))
+        .stderr(Stdio::piped())
+        .output()
+        .expect("its output");
+    let line = b"y86run: standard output cannot be written\n";
+    assert_eq!(output.stderr, line);
 }

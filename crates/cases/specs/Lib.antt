@@ -7,6 +7,7 @@ pub mod Table
 pub mod Bounds
 pub mod HostEdge
 pub mod Promises
+pub mod Program
 pub mod Single
 pub mod Wrong
 pub mod Edge

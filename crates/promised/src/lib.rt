@@ -9,6 +9,7 @@ ghost use Rattle.machine.specs.Runs.{plainAnswer, pipeAnswer};
 ghost use Rattle.edge.specs.Edge.{edge};
 ghost use Rattle.together.specs.Both.{startOf, bothAnswer};
 ghost use Rattle.cases.specs.Promises.{Fits, fetching, plain-start, plain-step, plain-run};
+ghost use Rattle.cases.specs.Program.{report-image, write-report};
 ghost use Rattle.cases.specs.Promises.{pipe-start, pipe-clock, pipe-run, pipe-run-unlogged, host-edge, run-both};
 
 fn fetch(memory: &[u8], address: u64) -> FetchAnswer
@@ -117,4 +118,16 @@ fn both(
         addresses,
         cycles,
     )
+}
+
+fn report_image(image: &mut [u8], out: &mut [u8; 652]) -> usize
+    ensures { λ r. ⌜ Fits report-image (now (image .entry), now (out .entry)) (r, now (out .exit), now (image .exit)) ⌝ }
+{
+    report::report_image(image, out)
+}
+
+fn write_report(number: u64, end: Pipeline, out: &mut [u8; 652]) -> usize
+    ensures { λ r. ⌜ Fits write-report (number, end, now (out .entry)) (r, now (out .exit)) ⌝ }
+{
+    report::write_report(number, end, out)
 }

@@ -51,6 +51,13 @@ put-front {t} {a} {b} {next} p h =
     let e : b ≡ t ++ drop (length t) a = p .lent ∙ (sets-eq t a 0 (omega arith) ∙ ap (λ (i : ℕ). t ++ drop i a) (zero-add (length t))) in
     cc
 
+-- so many bytes the buffer has
+pub written-within : (t a b : List ℕ) (n : ℕ) → _≡_ {A = ℕ × List ℕ} (n, b) (written t a) → n ≤ length b
+written-within t a b n e =
+    let l : length b ≡ length (t ++ drop (length t) a) = ap (λ (x : ℕ × List ℕ). length (x .1)) e in
+    let m : n ≡ length t = ap (λ (x : ℕ × List ℕ). x .0) e in
+    omega (arith, length-append t (drop (length t) a))
+
 -- and what `laid` makes of a log that is lent, it makes of a buffer
 sets-behind : (x : ℕ) (t b : List ℕ) (at : ℕ) → sets (x ∷ b) (suc at) t ≡ x ∷ sets b at t
 sets-behind x [] b at = refl

@@ -1,0 +1,34 @@
+use Rattle.report.proofs.Ways.{end}
+use borrow.Author.Needs.{needs}
+use native.Mathlib.Omega.{arith}
+use Rattle.report.proofs.put_end.Statement.{statement}
+use Rattle.report.proofs.put_end.Tie as tie
+
+put-status-requires : tie.Need-put-status-requires
+put-status-requires c κs = search needs
+
+put-counts-requires : tie.Need-put-counts-requires
+put-counts-requires c κs = search needs
+
+put-kinds-requires : tie.Need-put-kinds-requires
+put-kinds-requires c κs = search needs
+
+put-registers-requires : tie.Need-put-registers-requires
+put-registers-requires c κs = search needs
+
+same-length : tie.Need-same-length
+same-length c = search needs
+
+returns : tie.Need-returns
+returns c = (end _ (c .before .before .before .before .before .before .before .before .before .before .before .before .before .before .put-status .ensures .0) (c .before .before .before .before .before .before .before .before .before .before .put-counts .ensures .0) (c .before .before .before .before .before .before .put-kinds .ensures .0) (c .before .before .put-registers .ensures .0), omega arith)
+
+pub put-end-spec : {M : Type 1} → statement M
+put-end-spec =
+    tie.close
+    (tie.spec
+    put-status-requires
+    put-counts-requires
+    put-kinds-requires
+    put-registers-requires
+    same-length
+    returns)

@@ -1,0 +1,46 @@
+-- Laws of the report: which images are refused, what is written then, and that the report fits. Assumes nothing.
+use mathlib.Core.Path.{_≡_, refl, ap}
+use mathlib.Core.Bool.{Bool, true, false, cond}
+use mathlib.Core.List.{List, []}
+use Prim.Native.Nat.{ℕ, _≤_, _<_}
+use native.Mathlib.Omega.{arith}
+use lib.ListN.{length}
+use borrow.Author.Tests.{ne-eqb, lt-ltb}
+use Rattle.machine.specs.Memory.{Memory}
+use Rattle.machine.specs.Charges.{noKinds}
+use Rattle.machine.specs.Pipeline.{pipeStart}
+use Rattle.machine.specs.Runs.{sizeRefused, budgetRefused, logRefused, recordRefused, countsRefused, refusedInD, refusedInE, refusedInM, refusedInW, refusedKept, lowest, pipeRefusal, pipeDone, pipeBy, pipeRunUnlogged}
+use Rattle.text.specs.Bytes.{bytes}
+use Rattle.text.specs.Put.{written-within}
+use Rattle.text.specs.Decimal.{digits, decimal}
+use Rattle.report.specs.Report.{line, report, imageRun, reported, replayed}
+
+-- an image is refused only for its size
+pub refused-by-size : (image : Memory) → imageRun image .number ≡ cond (sizeRefused (length image)) 1 0
+unfolding imageRun pipeRunUnlogged pipeBy pipeDone pipeRefusal lowest budgetRefused logRefused recordRefused countsRefused refusedInD refusedInE refusedInM refusedInW refusedKept pipeStart noKinds
+refused-by-size image = go (sizeRefused (length image)) refl
+  where
+    go : (t : Bool) → sizeRefused (length image) ≡ t → imageRun image .number ≡ cond (sizeRefused (length image)) 1 0
+    go true e = rw e
+    go false e = rw e
+
+-- "Refused: `y86run 1` and `refused 1`", with a tab for each space
+pub refusal-written : (image : Memory) → sizeRefused (length image) ≡ true → reported image ≡ bytes "y86run\t1\nrefused\t1\n"
+unfolding reported report line digits decimal bytes
+refusal-written image h = rw (refused-by-size image, h)
+
+-- so of an image of more than 4,096 bytes, of which main reads 4,097
+pub too-long : (image : Memory) → 4096 < length image → reported image ≡ bytes "y86run\t1\nrefused\t1\n"
+unfolding sizeRefused
+too-long image h = refusal-written image (rw (ne-eqb (length image) 0 (λ e. omega arith), lt-ltb 4096 (length image) h))
+
+-- and of none
+pub none-read : reported [] ≡ bytes "y86run\t1\nrefused\t1\n"
+unfolding sizeRefused
+none-read = refusal-written [] refl
+
+-- THE BUFFER
+-- the bytes handed over stand in the buffer
+pub handed-over : (image out out′ image′ : List ℕ) (n : ℕ) → _≡_ {A = ℕ × List ℕ × List ℕ} (n, out′, image′) (replayed image out) → n ≤ length out′
+unfolding replayed
+handed-over image out out′ image′ n e = written-within (reported image) out out′ n (ap (λ (x : ℕ × List ℕ × List ℕ). (x .0, x .1)) e)
