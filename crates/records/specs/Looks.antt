@@ -180,7 +180,7 @@ plainCount r = r .machine .count
 abbrev pub plainLog : ℕ → PlainAnswer → ℕ
 plainLog j r = getD (r .log) j 0
 
--- ROWS: a rule in document 01's words, and whether it holds
+-- ROWS: a rule by its number in docs/RULES.md and in words, and whether it holds
 abbrev pub Row : Type 0
 Row = String × Bool
 
