@@ -7,7 +7,8 @@ use Rattle.machine.specs.Memory.{Memory}
 use Rattle.text.specs.Bytes.{bytes}
 use Rattle.text.specs.Decimal.{digits, decimal}
 use Rattle.text.specs.Put.{written}
-use Rattle.report.specs.Report.{line, statusText, statusLine, registerNames, registerName, registerLine, registerLines, countLines, kindLines, endLines, report, imageRun, reported, replayed}
+use Rattle.report.specs.Report.{line, statusText, statusLine, registerNames, registerName, registerLine, registerLines}
+use Rattle.report.specs.Report.{countLines, kindLines, endLines, report, imageRun, reported, replayed}
 use Rattle.cases.specs.Names.{Pipeline}
 use Rattle.cases.specs.Computing.{computing}
 use Rattle.cases.specs.Promises.{Operation}
@@ -30,7 +31,8 @@ one-write-report x r s a b = a ∙ sym b
 
 -- a report, to be computed
 unfoldable pub writes : Memory → List ℕ
-unfolding computing bytes digits decimal line statusText statusLine registerNames registerName registerLine registerLines countLines kindLines endLines report imageRun reported
+unfolding computing bytes digits decimal line statusText statusLine registerNames registerName registerLine registerLines
+    countLines kindLines endLines report imageRun reported
 writes image = reported image
 
 -- "For the one byte 00 it writes exactly these lines"

@@ -21,11 +21,13 @@ use Rattle.machine.specs.Runs.{PipeAnswer, pipeAnswer, pipeRunUnlogged}
 use Rattle.text.specs.Bytes.{bytes}
 use Rattle.text.specs.Decimal.{decimal}
 use Rattle.text.specs.Put.{Put, put-nothing, put-both, put-front, written}
-use Rattle.report.specs.Report.{line, numberLine, statusLine, registerNames, registerName, registerLine, registerLines, countLines, kindLines, endLines, report, imageRun, reported, replayed}
+use Rattle.report.specs.Report.{line, numberLine, statusLine, registerNames, registerName, registerLine, registerLines}
+use Rattle.report.specs.Report.{countLines, kindLines, endLines, report, imageRun, reported, replayed}
 
 -- LINES
 module _ {a b c d e : List ℕ} {at i j k r : ℕ} where
-  pub number-line : {name : List ℕ} (v : ℕ) → Put name at a i b → Put (9 ∷ []) i b j c → Put (decimal v) j c k d → Put (10 ∷ []) k d r e → Put (line name (decimal v)) at a r e
+  pub number-line : {name : List ℕ} (v : ℕ) → Put name at a i b → Put (9 ∷ []) i b j c → Put (decimal v) j c k d → Put (10 ∷ []) k d r e
+      → Put (line name (decimal v)) at a r e
   unfolding line bytes
   number-line v p q s t = put-both (put-both (put-both p q) s) t
 
@@ -83,11 +85,13 @@ module _ {a b : List ℕ} {at r : ℕ} (q v : ℕ) (h : q < 15) where
 
 module _ {a b c : List ℕ} {at i r : ℕ} where
   -- a register's line, and none for a register that is 0
-  pub register : (q v : ℕ) → (v ≡ 0 → ⊥) → Put (bytes "reg\t") at a i b → Put (numberLine (registerName q) v) i b r c → Put (registerLine q v) at a r c
+  pub register : (q v : ℕ) → (v ≡ 0 → ⊥) → Put (bytes "reg\t") at a i b
+      → Put (numberLine (registerName q) v) i b r c → Put (registerLine q v) at a r c
   unfolding registerLine bytes
   register q v h x y = rw (ne-eqb v 0 h) (put-both x y)
 
-  pub register-more : (q : ℕ) (registers : List ℕ) → Put (registerLines q registers) at a i b → Put (registerLine q (getD registers q 0)) i b r c → Put (registerLines (q + 1) registers) at a r c
+  pub register-more : (q : ℕ) (registers : List ℕ) → Put (registerLines q registers) at a i b
+      → Put (registerLine q (getD registers q 0)) i b r c → Put (registerLines (q + 1) registers) at a r c
   unfolding registerLines
   register-more q registers x y = rw (add-one) (put-both x y)
 
@@ -95,7 +99,8 @@ pub no-register : (q v at : ℕ) (a : List ℕ) → v ≡ 0 → Put (registerLin
 unfolding registerLine
 no-register q v at a h = rw (eq-eqb v 0 h) (put-nothing at a)
 
-pub all-registers : (q : ℕ) (registers : List ℕ) {a b : List ℕ} {at r : ℕ} → q ≤ 15 → 15 ≤ q → Put (registerLines q registers) at a r b → Put (registerLines 15 registers) at a r b
+pub all-registers : (q : ℕ) (registers : List ℕ) {a b : List ℕ} {at r : ℕ} → q ≤ 15 → 15 ≤ q
+    → Put (registerLines q registers) at a r b → Put (registerLines 15 registers) at a r b
 all-registers q registers {a} {b} {at} {r} h k x =
     let e : q ≡ 15 = omega arith in
     subst (λ (n : ℕ). Put (registerLines n registers) at a r b) e x
@@ -114,11 +119,15 @@ module _ {a b c : List ℕ} {i r : ℕ} (n : ℕ) (p : Pipeline) (room : length 
       let q : Put (report n p) 0 a r c = rw (ne-eqb n 0 h) (put-both first y) in
       put-front q (omega (arith, q .place))
 
-pub replays : (image image′ out out′ : List ℕ) (n r : ℕ) (fresh p : Pipeline) → fresh ≡ pipeStart (replicate 15 0) (record { zf = true; sf = false; of = false }) 0
+pub replays : (image image′ out out′ : List ℕ) (n r : ℕ) (fresh p : Pipeline)
+    → fresh ≡ pipeStart (replicate 15 0) (record { zf = true; sf = false; of = false }) 0
     → pipeAnswer n p image′ [] [] ≡ pipeRunUnlogged asIn01 fresh image 4000 → _≡_ {A = ℕ × List ℕ} (r, out′) (written (report n p) out)
     → _≡_ {A = ℕ × List ℕ × List ℕ} (r, out′, image′) (replayed image out)
 unfolding imageRun reported replayed
 replays image image′ out out′ n r fresh p e f g =
-    subst (λ (o : PipeAnswer). _≡_ {A = ℕ × List ℕ × List ℕ} (r, out′, image′) (length (report (o .number) (o .pipeline)), report (o .number) (o .pipeline) ++ drop (length (report (o .number) (o .pipeline))) out, o .memory))
+    subst
+    (λ (o : PipeAnswer).
+    let t = report (o .number) (o .pipeline) in
+    _≡_ {A = ℕ × List ℕ × List ℕ} (r, out′, image′) (length t, t ++ drop (length t) out, o .memory))
     (f ∙ ap (λ (k : Pipeline). pipeRunUnlogged asIn01 k image 4000) e)
     (ap (λ (x : ℕ × List ℕ). (x .0, x .1, image′)) g)

@@ -9,7 +9,8 @@ use borrow.Author.Tests.{ne-eqb, lt-ltb}
 use Rattle.machine.specs.Memory.{Memory}
 use Rattle.machine.specs.Charges.{noKinds}
 use Rattle.machine.specs.Pipeline.{pipeStart}
-use Rattle.machine.specs.Runs.{sizeRefused, budgetRefused, logRefused, recordRefused, countsRefused, refusedInD, refusedInE, refusedInM, refusedInW, refusedKept, lowest, pipeRefusal, pipeDone, pipeBy, pipeRunUnlogged}
+use Rattle.machine.specs.Runs.{sizeRefused, budgetRefused, logRefused, recordRefused, countsRefused, refusedInD, refusedInE, refusedInM}
+use Rattle.machine.specs.Runs.{refusedInW, refusedKept, lowest, pipeRefusal, pipeDone, pipeBy, pipeRunUnlogged}
 use Rattle.text.specs.Bytes.{bytes}
 use Rattle.text.specs.Put.{written-within}
 use Rattle.text.specs.Decimal.{digits, decimal}
@@ -17,7 +18,8 @@ use Rattle.report.specs.Report.{line, report, imageRun, reported, replay
 
 -- an image is refused only for its size
 pub refused-by-size : (image : Memory) → imageRun image .number ≡ cond (sizeRefused (length image)) 1 0
-unfolding imageRun pipeRunUnlogged pipeBy pipeDone pipeRefusal lowest budgetRefused logRefused recordRefused countsRefused refusedInD refusedInE refusedInM refusedInW refusedKept pipeStart noKinds
+unfolding imageRun pipeRunUnlogged pipeBy pipeDone pipeRefusal lowest budgetRefused logRefused recordRefused countsRefused
+    refusedInD refusedInE refusedInM refusedInW refusedKept pipeStart noKinds
 refused-by-size image = go (sizeRefused (length image)) refl
   where
     go : (t : Bool) → sizeRefused (length image) ≡ t → imageRun image .number ≡ cond (sizeRefused (length image)) 1 0
@@ -41,6 +43,7 @@ none-read = refusal-written [] refl
 
 -- THE BUFFER
 -- the bytes handed over stand in the buffer
-pub handed-over : (image out out′ image′ : List ℕ) (n : ℕ) → _≡_ {A = ℕ × List ℕ × List ℕ} (n, out′, image′) (replayed image out) → n ≤ length out′
+pub handed-over : (image out out′ image′ : List ℕ) (n : ℕ)
+    → _≡_ {A = ℕ × List ℕ × List ℕ} (n, out′, image′) (replayed image out) → n ≤ length out′
 unfolding replayed
 handed-over image out out′ image′ n e = written-within (reported image) out out′ n (ap (λ (x : ℕ × List ℕ × List ℕ). (x .0, x .1)) e)

@@ -12,7 +12,8 @@ ghost use Prim.Native.Nat.{ℕ, _+_, _^_, _≤_, _<_};
 ghost use lib.ListN.{length};
 ghost use Rattle.text.specs.Decimal.{decimal};
 ghost use Rattle.text.specs.Put.{Put, written};
-ghost use Rattle.report.specs.Report.{line, numberLine, statusLine, registerName, registerLine, registerLines, countLines, kindLines, endLines, report, replayed};
+ghost use Rattle.report.specs.Report.{line, numberLine, statusLine, registerName, registerLine, registerLines};
+ghost use Rattle.report.specs.Report.{countLines, kindLines, endLines, report, replayed};
 
 // The registers' names, three bytes each.
 const NAMES: [u8; 45] = *b"raxrcxrdxrbxrsprbprsirdir8 r9 r10r11r12r13r14";

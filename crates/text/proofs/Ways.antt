@@ -14,10 +14,12 @@ pub place-so-far : (text : List ℕ) (k : ℕ) {at next : ℕ} {a b : List ℕ} 
 place-so-far text k {at} h p = p .place ∙ ap (λ (j : ℕ). at + j) (length-take-le k text h)
 
 pub one-more : (text : List ℕ) (k : ℕ) {a b b′ : List ℕ} {at next next′ : ℕ}
-    → k < length text → Put (take k text) at a next b → Put (getD text k 0 ∷ []) next b next′ b′ → Put (take (k + 1) text) at a next′ b′
+    → k < length text → Put (take k text) at a next b → Put (getD text k 0 ∷ []) next b next′ b′
+    → Put (take (k + 1) text) at a next′ b′
 one-more text k h p q = rw (add-one, take-suc text k 0) (put-both p q)
 
-pub all-put : (text : List ℕ) (k : ℕ) {a b : List ℕ} {at next : ℕ} → k ≤ length text → length text ≤ k → Put (take k text) at a next b → Put text at a next b
+pub all-put : (text : List ℕ) (k : ℕ) {a b : List ℕ} {at next : ℕ}
+    → k ≤ length text → length text ≤ k → Put (take k text) at a next b → Put text at a next b
 all-put text k {a} {b} {at} {next} h i p =
     let e : k ≡ length text = omega arith in
     subst (λ (t : List ℕ). Put t at a next b) (ap (λ (j : ℕ). take j text) e ∙ take-length text) p

@@ -90,7 +90,8 @@ decimal-length = by-tenths (λ n. (k : ℕ) → n < 10 ^ suc k → length (decim
     one : (n : ℕ) → n < 10 → (k : ℕ) → n < 10 ^ suc k → length (decimal n) ≤ suc k
     one n h k l = rw (decimal-one n h) (omega arith)
 
-    more : (n : ℕ) → 10 ≤ n → ((k : ℕ) → n / 10 < 10 ^ suc k → length (decimal (n / 10)) ≤ suc k) → (k : ℕ) → n < 10 ^ suc k → length (decimal n) ≤ suc k
+    more : (n : ℕ) → 10 ≤ n → ((k : ℕ) → n / 10 < 10 ^ suc k → length (decimal (n / 10)) ≤ suc k)
+        → (k : ℕ) → n < 10 ^ suc k → length (decimal n) ≤ suc k
     more n h shorter zero l = absurd (omega arith)
     more n h shorter (suc k) l =
         let s = shorter k (omega (arith, div-add-mod' n 10, pow-suc 10 (suc k))) in
@@ -114,7 +115,8 @@ unfolding allDigits
 digits-behind [] t h i = i
 digits-behind (b ∷ s) t h i = pick (isDigit b) refl (digits-behind s t)
   where
-    pick : (x : Bool) → isDigit b ≡ x → (allDigits s ≡ true → allDigits t ≡ true → allDigits (s ++ t) ≡ true) → allDigits (b ∷ s ++ t) ≡ true
+    pick : (x : Bool) → isDigit b ≡ x → (allDigits s ≡ true → allDigits t ≡ true → allDigits (s ++ t) ≡ true)
+        → allDigits (b ∷ s ++ t) ≡ true
     pick true e rest = rw e (rest (rw e at h) i)
     pick false e rest = rw e (rw e at h)
 

@@ -30,7 +30,10 @@ pub put-both : {s t : List ℕ} {at next last : ℕ} {a b c : List ℕ} → Put 
 put-both {s} {t} {at} {next} {last} {a} {b} {c} p q =
     record {
       place = omega (arith, length-append s t, p .place, q .place);
-      lent = q .lent ∙ (ap (λ (l : List ℕ). sets l next t) (p .lent) ∙ (ap (λ (i : ℕ). sets (sets a at s) i t) (p .place) ∙ sym (sets-both s t a at)));
+      lent =
+          q .lent
+          ∙ (ap (λ (l : List ℕ). sets l next t) (p .lent)
+          ∙ (ap (λ (i : ℕ). sets (sets a at s) i t) (p .place) ∙ sym (sets-both s t a at)));
     }
 
 pub put-length : {t : List ℕ} {at next : ℕ} {a b : List ℕ} → Put t at a next b → length b ≡ length a

@@ -37,7 +37,15 @@ same-length c = search needs
 
 returns : tie.Need-returns
 unfolding bytes
-returns c = (counts _ _ (c .before .before .before .before .before .before .before .before .before .before .before .before .before .codes-number .ensures) (c .before .before .before .before .before .before .before .before .before .before .before .before .before .before .before .before .before .before .put-number .ensures .0) (c .before .before .before .before .before .before .before .before .before .before .before .before .put-number2 .ensures .0) (c .before .before .before .before .before .before .before .put-number3 .ensures .0) (c .before .before .put-number4 .ensures .0), omega arith)
+returns c = (
+  let cycles = c .before .before in
+      let retired = cycles .before .before .before .before .before in
+      let codes = retired .before .before .before .before .before in
+      let last = codes .before .before .before .before .before .before in
+      counts _ _ (codes .before .codes-number .ensures) (last .put-number .ensures .0)
+      (codes .put-number2 .ensures .0) (retired .put-number3 .ensures .0) (cycles .put-number4 .ensures .0),
+  omega arith,
+)
 
 pub put-counts-spec : {M : Type 1} → statement M
 put-counts-spec =

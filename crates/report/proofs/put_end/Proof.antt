@@ -20,7 +20,14 @@ same-length : tie.Need-same-length
 same-length c = search needs
 
 returns : tie.Need-returns
-returns c = (end _ (c .before .before .before .before .before .before .before .before .before .before .before .before .before .before .put-status .ensures .0) (c .before .before .before .before .before .before .before .before .before .before .put-counts .ensures .0) (c .before .before .before .before .before .before .put-kinds .ensures .0) (c .before .before .put-registers .ensures .0), omega arith)
+returns c = (
+  let registers = c .before .before in
+      let kinds = registers .before .before .before .before in
+      let counts = kinds .before .before .before .before in
+      let status = counts .before .before .before .before in
+      end _ (status .put-status .ensures .0) (counts .put-counts .ensures .0) (kinds .put-kinds .ensures .0) (registers .put-registers .ensures .0),
+  omega arith,
+)
 
 pub put-end-spec : {M : Type 1} → statement M
 put-end-spec =

@@ -28,7 +28,13 @@ same-length c = search needs
 
 returns : tie.Need-returns
 unfolding bytes
-returns c = (kinds _ (c .before .before .before .before .before .before .before .before .before .before .before .before .put-number .ensures .0) (c .before .before .before .before .before .before .before .put-number2 .ensures .0) (c .before .before .put-number3 .ensures .0), omega arith)
+returns c = (
+  let returned = c .before .before in
+      let mispredict = returned .before .before .before .before .before in
+      let loaduse = mispredict .before .before .before .before .before in
+      kinds _ (loaduse .put-number .ensures .0) (mispredict .put-number2 .ensures .0) (returned .put-number3 .ensures .0),
+  omega arith,
+)
 
 pub put-kinds-spec : {M : Type 1} → statement M
 put-kinds-spec =

@@ -46,14 +46,26 @@ same-length c = search needs
 
 returns : tie.Need-returns
 unfolding bytes
-returns c = (two-letters _ _ (c .before .before .before .before .before .before .before .pre .0) (c .before .before .before .before .before .if1 .taken) (c .before .before .put-number .ensures .0), omega arith)
+returns c = (
+  let line = c .before .before in
+      let test = line .before .before .before in
+      let start = test .before .before in
+      two-letters _ _ (start .pre .0) (test .if1 .taken) (line .put-number .ensures .0),
+  omega arith,
+)
 
 same-length-2 : tie.Need-same-length-2
 same-length-2 c = search needs
 
 returns-2 : tie.Need-returns-2
 unfolding bytes
-returns-2 c = (three-letters _ _ (c .before .before .before .before .before .before .before .pre .0) (c .before .before .before .before .before .if1 .left) (c .before .before .put-number2 .ensures .0), omega arith)
+returns-2 c = (
+  let line = c .before .before in
+      let test = line .before .before .before in
+      let start = test .before .before in
+      three-letters _ _ (start .pre .0) (test .if1 .left) (line .put-number2 .ensures .0),
+  omega arith,
+)
 
 pub put-named-spec : {M : Type 1} → statement M
 put-named-spec =

@@ -20,7 +20,14 @@ same-length : tie.Need-same-length
 same-length c = search needs
 
 returns : tie.Need-returns
-returns c = (number-line _ (c .before .before .before .before .before .before .before .before .before .before .before .before .before .before .put-text .ensures) (c .before .before .before .before .before .before .before .before .before .before .put-byte .ensures) (c .before .before .before .before .before .before .put-decimal .ensures .0) (c .before .before .put-byte2 .ensures), omega arith)
+returns c = (
+  let end = c .before .before in
+      let digits = end .before .before .before .before in
+      let tab = digits .before .before .before .before in
+      let name = tab .before .before .before .before in
+      number-line _ (name .put-text .ensures) (tab .put-byte .ensures) (digits .put-decimal .ensures .0) (end .put-byte2 .ensures),
+  omega arith,
+)
 
 pub put-number-spec : {M : Type 1} → statement M
 put-number-spec =

@@ -22,7 +22,12 @@ same-length c = search needs
 
 returns-2 : tie.Need-returns-2
 unfolding bytes
-returns-2 c = (register _ _ (c .before .before .before .before .before .before .before .before .before .if1 .left) (c .before .before .before .before .before .before .put-text .ensures) (c .before .before .put-named .ensures .0), omega arith)
+returns-2 c = (
+  let named = c .before .before in
+      let name = named .before .before .before .before in
+      register _ _ (name .before .before .before .if1 .left) (name .put-text .ensures) (named .put-named .ensures .0),
+  omega arith,
+)
 
 pub put-register-spec : {M : Type 1} → statement M
 put-register-spec =

@@ -11,7 +11,8 @@ use Rattle.report.proofs.put_registers.Statement.{statement}
 use Rattle.report.proofs.put_registers.Tie as tie
 
 abbrev Inv-loop : tie.InvT-loop
-Inv-loop buffer₀ at registers next₀ k₀ buffer next k = (k ≤ 15) × (length registers ≡ 15) × (next ≤ at + 29 * k) × Put (registerLines k registers) at buffer₀ next buffer
+Inv-loop buffer₀ at registers next₀ k₀ buffer next k =
+    (k ≤ 15) × (length registers ≡ 15) × (next ≤ at + 29 * k) × Put (registerLines k registers) at buffer₀ next buffer
 
 abbrev μ-loop : tie.MeasureT-loop
 μ-loop buffer₀ at registers next₀ k₀ buffer next k = 15 - k
@@ -36,7 +37,13 @@ loop-less : tie.Need-loop-less Inv-loop μ-loop
 loop-less c = omega arith
 
 loop-again : tie.Need-loop-again Inv-loop μ-loop
-loop-again c = (omega arith, search needs, omega arith, register-more _ _ (c .before .before .before .before .before .loop .inv .3) (c .before .before .put-register .ensures .0))
+loop-again c = (
+  omega arith,
+  search needs,
+  omega arith,
+  let put = c .before .before in
+      register-more _ _ (put .before .before .before .loop .inv .3) (put .put-register .ensures .0),
+)
 
 same-length : tie.Need-same-length Inv-loop μ-loop
 same-length c = put-length (c .before .loop .inv .3)

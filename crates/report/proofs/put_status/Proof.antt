@@ -48,28 +48,48 @@ same-length c = search needs
 
 returns : tie.Need-returns
 unfolding statusLine statusText line bytes
-returns c = (status-line (c .before .before .before .before .before .before .before .before .args .status) aok (cc) (c .before .before .put-text .ensures), omega arith)
+returns c = (
+  let put = c .before .before in
+      let start = put .before .before .before .before .before .before in
+      status-line (start .args .status) aok (cc) (put .put-text .ensures),
+  omega arith,
+)
 
 same-length-2 : tie.Need-same-length-2
 same-length-2 c = search needs
 
 returns-2 : tie.Need-returns-2
 unfolding statusLine statusText line bytes
-returns-2 c = (status-line (c .before .before .before .before .before .before .before .before .args .status) hlt (cc) (c .before .before .put-text2 .ensures), omega arith)
+returns-2 c = (
+  let put = c .before .before in
+      let start = put .before .before .before .before .before .before in
+      status-line (start .args .status) hlt (cc) (put .put-text2 .ensures),
+  omega arith,
+)
 
 same-length-3 : tie.Need-same-length-3
 same-length-3 c = search needs
 
 returns-3 : tie.Need-returns-3
 unfolding statusLine statusText line bytes
-returns-3 c = (status-line (c .before .before .before .before .before .before .before .before .args .status) adr (cc) (c .before .before .put-text3 .ensures), omega arith)
+returns-3 c = (
+  let put = c .before .before in
+      let start = put .before .before .before .before .before .before in
+      status-line (start .args .status) adr (cc) (put .put-text3 .ensures),
+  omega arith,
+)
 
 same-length-4 : tie.Need-same-length-4
 same-length-4 c = search needs
 
 returns-4 : tie.Need-returns-4
 unfolding statusLine statusText line bytes
-returns-4 c = (status-line (c .before .before .before .before .before .before .before .before .args .status) ins (cc) (c .before .before .put-text4 .ensures), omega arith)
+returns-4 c = (
+  let put = c .before .before in
+      let start = put .before .before .before .before .before .before in
+      status-line (start .args .status) ins (cc) (put .put-text4 .ensures),
+  omega arith,
+)
 
 pub put-status-spec : {M : Type 1} → statement M
 put-status-spec =

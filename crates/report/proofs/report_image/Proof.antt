@@ -16,7 +16,10 @@ same-length : tie.Need-same-length
 same-length c = search needs
 
 returns : tie.Need-returns
-returns c = replays _ _ _ _ _ _ _ _ (c .before .before .before .before .before .before .before .start .ensures) (c .before .before .before .before .before .run-unlogged .ensures) (c .write-report .ensures)
+returns c =
+    let run = c .before .before .before .before .before in
+    let start = run .before .before in
+    replays _ _ _ _ _ _ _ _ (start .start .ensures) (run .run-unlogged .ensures) (c .write-report .ensures)
 
 pub report-image-spec : {M : Type 1} → statement M
 report-image-spec =

@@ -26,7 +26,11 @@ returns c = answered _ _ (search needs) (c .before .before .before .put-text .en
 
 returns-2 : tie.Need-returns-2
 unfolding bytes
-returns-2 c = refused _ (c .before .before .before .before .before .before .before .args .end) (search needs) (c .before .before .before .before .put-text .ensures) (omega arith) (c .before .before .before .if1 .left) (c .put-number .ensures .0)
+returns-2 c =
+    let test = c .before .before .before in
+    let first = test .before in
+    let start = first .before .before .before in
+    refused _ (start .args .end) (search needs) (first .put-text .ensures) (omega arith) (test .if1 .left) (c .put-number .ensures .0)
 
 pub write-report-spec : {M : Type 1} → statement M
 write-report-spec =
