@@ -14,13 +14,16 @@ use Rattle.machine.specs.Stages.{sourceA, sourceB}
 use Rattle.machine.specs.Plain.{Plain, isStopped, fetched, decoded, executed, accessed, steps}
 use Rattle.machine.specs.Prediction.{Settings}
 use Rattle.machine.specs.Charges.{due}
-use Rattle.machine.specs.Pipeline.{Piped, waits, mispredicts, fails, returns, retInE, retInM, fetchAddress, fetchedNow, source, sourceM, sourceW, pastBoth, advanced}
+use Rattle.machine.specs.Pipeline.{Piped, waits, mispredicts, fails, returns, retInE, retInM}
+use Rattle.machine.specs.Pipeline.{fetchAddress, fetchedNow, source, sourceM, sourceW, pastBoth, advanced}
 use Rattle.laws.specs.Registers.{value-after}
 use Rattle.account.specs.Laws
 use Rattle.account.specs.Laws.{bit, wrongAt}
 use Rattle.account.specs.Signals
 use Rattle.account.specs.Signals.{waitsFor, loadsInto}
-use Rattle.account.specs.Relation.{Known, Beyond, Guessed, AtF, BehindD, AtD, BehindE, AtE, BehindM, AtM, AtW, beyondF, stopF, readyF, goesD, wrongD, retD, beyondD, stopD, emptyD, fullD, goesE, wrongE, retE, beyondE, stopE, emptyE, fullE, goesM, retM, beyondM, stopM, emptyM, fullM, beyondW, emptyW, fullW}
+use Rattle.account.specs.Relation.{Known, Beyond, Guessed, AtF, BehindD, AtD, BehindE, AtE, BehindM, AtM, AtW, beyondF, stopF}
+use Rattle.account.specs.Relation.{readyF, goesD, wrongD, retD, beyondD, stopD, emptyD, fullD, goesE, wrongE, retE, beyondE}
+use Rattle.account.specs.Relation.{stopE, emptyE, fullE, goesM, retM, beyondM, stopM, emptyM, fullM, beyondW, emptyW, fullW}
 
 data Fate (g : Settings) (s : Plain) (K n : ℕ) : Type 0 where
   beyond : Beyond g s K n → Fate g s K n
@@ -152,7 +155,8 @@ module _ (g : Settings) (s : Plain) (K : ℕ) (p : Piped) (c : ℕ)
       go : (b : Bool) → waits g p ≡ b → AtE g s K (advanced g p) (suc c) n
       go true w =
           emptyE (v .codes) (Signals.e-waiting g p w)
-          (fullD l (Signals.d-held g p (v .right) w ∙ h) (omega (arith, ap bit w, ap bit (Signals.waits-bubbleE g (advanced g p) (Signals.e-waiting g p w)))) (held a))
+          (fullD l (Signals.d-held g p (v .right) w ∙ h) (omega (arith, ap bit w, ap bit (Signals.waits-bubbleE g (advanced g p) (Signals.e-waiting g p w))))
+          (held a))
         where
           held : BehindD g s K p c n → BehindD g s K (advanced g p) (suc c) n
           held (goesD q f) = goesD q (hold-F (suc n) w (v .right) (v .staysM) f)
@@ -272,10 +276,12 @@ module _ (g : Settings) (s : Plain) (K : ℕ) (p : Piped) (c : ℕ)
         moved : BehindE g s K p c n → BehindM g s K (advanced g p) (suc c) n
         moved (goesE q d) = goesM (q .stays) (into-E (suc n) decoding d)
           where
-            read′ : isStopped (steps s (suc n)) ≡ false → (q : ℕ) → loadsInto (p .pipeline .e) q ≡ false → source p q ≡ value (steps s (suc n) .machine .registers) q
+            read′ : isStopped (steps s (suc n)) ≡ false → (q : ℕ) → loadsInto (p .pipeline .e) q ≡ false
+                → source p q ≡ value (steps s (suc n) .machine .registers) q
             read′ r q u =
                 Signals.source-in g p (steps s n) h k q
-                ∙ (sym (Laws.past-unloaded (steps s n) q (sourceM p q) (subst (λ (e : StageE). loadsInto e q ≡ false) h u)) ∙ read-on n l r q (sourceM p q) (v .read (l .runs) q))
+                ∙ (sym (Laws.past-unloaded (steps s n) q (sourceM p q) (subst (λ (e : StageE). loadsInto e q ≡ false) h u)) ∙ read-on n l r q (sourceM p q)
+                (v .read (l .runs) q))
 
             decoding : Decoding (suc n)
             decoding =
@@ -300,7 +306,8 @@ module _ (g : Settings) (s : Plain) (K : ℕ) (p : Piped) (c : ℕ)
       registers′ : advanced g p .pipeline .registers ≡ steps s n .machine .registers
       read : (q : ℕ) → sourceW p q ≡ value (steps s n .machine .registers) q
 
-    module _ (n : ℕ) (l : Known g s K n) (k : p .memory ≡ steps s n .memory) (h : p .pipeline .m ≡ inM (executed (steps s n))) (t : due g s (suc n) ≡ c + 2) where
+    module _ (n : ℕ) (l : Known g s K n) (k : p .memory ≡ steps s n .memory) (h : p .pipeline .m ≡ inM (executed (steps s n)))
+        (t : due g s (suc n) ≡ c + 2) where
       memory-next : advanced g p .memory ≡ steps s (suc n) .memory
       unfolding steps
       memory-next = Signals.memory-in g p (steps s n) h k ∙ sym (Laws.step-memory (steps s n) (l .runs))
@@ -313,7 +320,8 @@ module _ (g : Settings) (s : Plain) (K : ℕ) (p : Piped) (c : ℕ)
       in-M = Signals.retM-in g p (executed (steps s n)) h ∙ ap (is ret) (Laws.in-executed (steps s n))
 
       -- the return in M stands in W next, and fetch turns to the word that it read
-      return-M : is ret (fetched (steps s n)) ≡ true → p .pipeline .codes ≡ steps s (suc n) .machine .codes → p .pipeline .e ≡ bubbleE → p .pipeline .d ≡ bubbleD
+      return-M : is ret (fetched (steps s n)) ≡ true → p .pipeline .codes ≡ steps s (suc n) .machine .codes → p .pipeline .e ≡ bubbleE
+          → p .pipeline .d ≡ bubbleD
           → AtM g s K (advanced g p) (suc c) (suc n)
       unfolding bit waitsFor steps
       return-M y kc e d = go (fate g s K (suc n))
@@ -335,7 +343,8 @@ module _ (g : Settings) (s : Plain) (K : ℕ) (p : Piped) (c : ℕ)
               (emptyE (Signals.codes-bubble g p e ∙ kc) e′
               (emptyD d′
               (readyF l′
-              (Signals.at-returned g (advanced g p) (accessed (steps s n)) m′ (Signals.w-in g p (steps s n) h k) (ap (is ret) (Laws.in-accessed (steps s n)) ∙ y)
+              (Signals.at-returned g (advanced g p) (accessed (steps s n)) m′ (Signals.w-in g p (steps s n) h k)
+              (ap (is ret) (Laws.in-accessed (steps s n)) ∙ y)
               ∙ sym (Laws.address-returned (steps s n) (l .runs) (l′ .runs) y)) (inl d′)
               (omega (
                 arith,
@@ -379,7 +388,8 @@ module _ (g : Settings) (s : Plain) (K : ℕ) (p : Piped) (c : ℕ)
         moved (retM y kc e d) = return-M n l k h t y kc e d
 
     -- a clock with a bubble in W, and one in which an instruction retires and the machine runs on
-    pub clock-empty : (n : ℕ) → isStopped (steps s n) ≡ false → p .pipeline .registers ≡ steps s n .machine .registers → p .pipeline .w ≡ bubbleW → AtM g s K p c n
+    pub clock-empty : (n : ℕ) → isStopped (steps s n) ≡ false → p .pipeline .registers ≡ steps s n .machine .registers → p .pipeline .w ≡ bubbleW
+        → AtM g s K p c n
         → AtW g s K (advanced g p) (suc c) n
     clock-empty n r k h a = into-W n (record { run = r; registers′ = Signals.registers-bubble g p h ∙ k; read = λ q. cc (Signals.sourceW-bubble g p h q) }) a
 

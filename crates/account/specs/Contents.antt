@@ -10,7 +10,8 @@ use borrow.Author.Tests.{le-ltb, ltb-false, leb-false, ne-eqb}
 use lib.Dec.{ltb, leb, eqb, eqb·suc-zero}
 use lib.ListN.{length, getD, set, take, drop, length-set, List·getD-eq-default}
 use lib.Seq.{getD-set-same, getD-set-other, getD-drop}
-use Rattle.account.specs.Names.{Status, Instruction, Executed, Accessed, Kept, StageD, bubbleD, inD, StageE, bubbleE, inE, StageM, bubbleM, inM, StageW, bubbleW, inW}
+use Rattle.account.specs.Names.{Status, Instruction, Executed, Accessed, Kept}
+use Rattle.account.specs.Names.{StageD, bubbleD, inD, StageE, bubbleE, inE, StageM, bubbleM, inM, StageW, bubbleW, inW}
 use Rattle.machine.specs.Words.{placed}
 use Rattle.machine.specs.Memory.{Memory, inside, store}
 use Rattle.machine.specs.Table.{RegisterByte, noByte, bothNamed, onlyB, onlyA, rowOf, table, is, cmov, jump, operation}
@@ -18,8 +19,10 @@ use Rattle.machine.specs.Fetch.{fetch, parsed, stopping, half, ownBytes, sizeAt
 use Rattle.machine.specs.Stages.{decode, execute, access, stores, accessAddress, storedWord, newMemory}
 use Rattle.machine.specs.Prediction.{Settings}
 use Rattle.machine.specs.Charges.{retiredOf}
-use Rattle.machine.specs.Pipeline.{Piped, pipeStart, afterE, afterM, memoryAfter, mispredicts, waits, returns, fails, fetchedNow, fetchAddress, nextD, decodedD, nextE, nextM, keptAfter, advanced, stoppedIn, clock, clocks}
-use Rattle.machine.specs.Runs.{instructionRefused, refusedInD, refusedInE, refusedInM, refusedInW, refusedKept, countsRefused, recordRefused, sizeRefused, budgetRefused, logRefused, lowest, pipeLimit, pipeRefusal}
+use Rattle.machine.specs.Pipeline.{Piped, pipeStart, afterE, afterM, memoryAfter, mispredicts, waits, returns, fails, fetchedNow}
+use Rattle.machine.specs.Pipeline.{fetchAddress, nextD, decodedD, nextE, nextM, keptAfter, advanced, stoppedIn, clock, clocks}
+use Rattle.machine.specs.Runs.{instructionRefused, refusedInD, refusedInE, refusedInM, refusedInW, refusedKept, countsRefused}
+use Rattle.machine.specs.Runs.{recordRefused, sizeRefused, budgetRefused, logRefused, lowest, pipeLimit, pipeRefusal}
 use Rattle.account.specs.Statement.{Start, pipedFrom}
 use Rattle.account.specs.Laws.{checked-any}
 use Rattle.laws.specs.Tests.{neither}
@@ -81,7 +84,8 @@ and-false : (b : Bool) → b && false ≡ false
 and-false true = refl
 and-false false = refl
 
-fits : (i : Instruction) → ltb 15 (i .ra) ≡ false → ltb 15 (i .rb) ≡ false → leb (rowOf (i .code) .functions) (i .function) ≡ false → instructionRefused i ≡ false
+fits : (i : Instruction) → ltb 15 (i .ra) ≡ false → ltb 15 (i .rb) ≡ false → leb (rowOf (i .code) .functions) (i .function) ≡ false
+    → instructionRefused i ≡ false
 unfolding instructionRefused
 fits i a b f =
     cc (
@@ -93,7 +97,8 @@ fetch-fits : (m : Memory) (a : ℕ) → Bytes m → instructionRefused (fetch m 
 unfolding fetch parsed
 fetch-fits m a h =
     checked-any (λ i. instructionRefused i ≡ false) _ _ _ _ _ _ (stopping-fits a)
-    (λ n. fits _ (half-fits _ _ (div-lt-iff-lt-mul (omega arith) .1 (omega (arith, bytes-own m a h 1)))) (half-fits _ _ (mod-lt (getD (ownBytes m a) 1 0) (omega arith))) n)
+    (λ n. fits _ (half-fits _ _ (div-lt-iff-lt-mul (omega arith) .1 (omega (arith, bytes-own m a h 1))))
+    (half-fits _ _ (mod-lt (getD (ownBytes m a) 1 0) (omega arith))) n)
 
 -- A CLOCK passes on what it holds
 cond-any : {A : Type 0} (P : A → Type 0) (b : Bool) (x y : A) → P x → P y → P (cond b x y)
@@ -190,7 +195,8 @@ module _ (g : Settings) (t : Start) (h : Bytes (t .memory)) where
       cc (counts-fit (clocks g (pipedFrom t) c) (counts-within g t c))
 
   -- so whoever gives it a size, a budget and logs that fit is not refused
-  pub continues : (c size budget : ℕ) (logs : List ℕ) → sizeRefused size ≡ false → budgetRefused pipeLimit (clocks g (pipedFrom t) c .pipeline .cycles) budget ≡ false
+  pub continues : (c size budget : ℕ) (logs : List ℕ) → sizeRefused size ≡ false
+      → budgetRefused pipeLimit (clocks g (pipedFrom t) c .pipeline .cycles) budget ≡ false
       → logRefused logs budget ≡ false → pipeRefusal (clocks g (pipedFrom t) c .pipeline) size budget logs ≡ 0
   unfolding pipeRefusal lowest
   continues c size budget logs a b d = cc (never-refused c)

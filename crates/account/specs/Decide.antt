@@ -113,7 +113,9 @@ module _ (w : ℕ) (s : Plain) (K : ℕ) where
       d = n - suc j
 
       one : leb n d || not (touches (steps s (n - suc d)) (steps s n)) ≡ true → ⊥
-      one z = true≢false (sym z ∙ cc (lt-leb n d (omega arith), touches-if (steps s (n - suc d)) (steps s n) x (subst (λ (i : ℕ). writesByte (steps s i) x ≡ true) at a) b))
+      one z =
+          let touched = touches-if (steps s (n - suc d)) (steps s n) x (subst (λ (i : ℕ). writesByte (steps s i) x ≡ true) at a) b in
+          true≢false (sym z ∙ cc (lt-leb n d (omega arith), touched))
         where
           at : j ≡ n - suc d
           at = omega arith
@@ -131,9 +133,12 @@ module _ (w : ℕ) (s : Plain) (K : ℕ) where
     where
       by : (n : ℕ) → n < K → (b : Bool) → isStopped (steps s n) ≡ b → clear w s n ≡ true
       by n q true e = cc
-      by n q false e = cc (each-all w (λ d. leb n d || not (touches (steps s (n - suc d)) (steps s n))) (λ d h. one d h (leb n d) (touches (steps s (n - suc d)) (steps s n)) refl refl))
+      by n q false e =
+          cc (each-all w (λ d. leb n d || not (touches (steps s (n - suc d)) (steps s n)))
+          (λ d h. one d h (leb n d) (touches (steps s (n - suc d)) (steps s n)) refl refl))
         where
-          one : (d : ℕ) → d < w → (x y : Bool) → leb n d ≡ x → touches (steps s (n - suc d)) (steps s n) ≡ y → leb n d || not (touches (steps s (n - suc d)) (steps s n)) ≡ true
+          one : (d : ℕ) → d < w → (x y : Bool) → leb n d ≡ x → touches (steps s (n - suc d)) (steps s n) ≡ y
+              → leb n d || not (touches (steps s (n - suc d)) (steps s n)) ≡ true
           one d h true y f z = cc
           one d h false false f z = cc
           one d h false true f z =

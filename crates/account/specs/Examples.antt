@@ -64,8 +64,17 @@ program final =
 -- it stops with x at address 19 as the seventh instruction, in cycle 17, and has been charged for each reason
 pub reached : Status → Figures
 reached x =
-    record
-    { premise = true; dueIn = 17; plainStatus = x; plainLast = 19; status = x; last = 19; retired = 7; cycles = 17; kinds = record { loaduse = 1; mispredict = 2; returned = 3 } }
+    record {
+      premise = true;
+      dueIn = 17;
+      plainStatus = x;
+      plainLast = 19;
+      status = x;
+      last = 19;
+      retired = 7;
+      cycles = 17;
+      kinds = record { loaduse = 1; mispredict = 2; returned = 3 };
+    }
 
 -- the premise is met, every kind of charge is made, and each stop is reached: by a halt, a ret whose word is outside, and a code without functions
 pub each-stop : (figures 3 (program 0x00) 7 17 ≡ reached hlt) × (figures 3 (program 0x90) 7 17 ≡ reached adr) × (figures 3 (program 0xc0) 7 17 ≡ reached ins)
@@ -79,7 +88,17 @@ patching = 0x40 ∷ 0x01 ∷ 0x0c ∷ replicate 7 0 ++ replicate 10 0x10
 
 pub patched : (premise : Bool) → Status → (last retired cycles : ℕ) → Figures
 patched b x a n c =
-    record { premise = b; dueIn = 8; plainStatus = hlt; plainLast = 12; status = x; last = a; retired = n; cycles = c; kinds = record { loaduse = 0; mispredict = 0; returned = 0 } }
+    record {
+      premise = b;
+      dueIn = 8;
+      plainStatus = hlt;
+      plainLast = 12;
+      status = x;
+      last = a;
+      retired = n;
+      cycles = c;
+      kinds = record { loaduse = 0; mispredict = 0; returned = 0 };
+    }
 
 -- no store writes a byte of the next two, one writes a byte of the next three; the plain engine stops at 12, the pipeline goes on and stops at 13
 pub two-differ : (figures 2 patching 4 8 ≡ patched true aok 12 4 8) × (figures 3 patching 4 9 ≡ patched false hlt 13 5 9)

@@ -13,7 +13,8 @@ use Rattle.machine.specs.Types.{isBad}
 use Rattle.machine.specs.Memory.{inside, store}
 use Rattle.machine.specs.Table.{rowOf, table, is, operation, cmov, jump, ret}
 use Rattle.machine.specs.Fetch.{fetch, parsed, checked, stopping}
-use Rattle.machine.specs.Stages.{register, decode, execute, access, outcome, condition, loads, stores, loading, storing, accessAddress, accessStatus, newCodes, newMemory, newRegisters, loadedTarget, sourceA, sourceB, turned, straight, nextAddress}
+use Rattle.machine.specs.Stages.{register, decode, execute, access, outcome, condition, loads, stores, loading, storing, accessAddress}
+use Rattle.machine.specs.Stages.{accessStatus, newCodes, newMemory, newRegisters, loadedTarget, sourceA, sourceB, turned, straight, nextAddress}
 use Rattle.machine.specs.Plain.{Plain, isStopped, fetched, decoded, executed, accessed, performed, stoppedBy, step, steps}
 use Rattle.machine.specs.Prediction.{Settings, Rule, taken, guess, predictedNext, mispredicted, meets, loadUse}
 use Rattle.machine.specs.Charges.{reasonBehind, retiredOf, amount, reasonOf, charge, charges, due}
@@ -36,7 +37,8 @@ record Fetched (a : ℕ) (i : Instruction) : Type 0 where
   nop : isBad (i .status) ≡ true → i .code ≡ 1
 
 -- what holds of every stopping instruction, and of the one read where code and function are in the table, holds of the checked one
-pub checked-any : (P : Instruction → Type 0) (f n l r h : Bool) (i : Instruction) → ((x : Status) → P (stopping (i .address) x)) → (n ≡ false → P i) → P (checked f n l r h i)
+pub checked-any : (P : Instruction → Type 0) (f n l r h : Bool) (i : Instruction) → ((x : Status) → P (stopping (i .address) x)) → (n ≡ false → P i)
+    → P (checked f n l r h i)
 unfolding checked
 checked-any P true n l r h i s k = s adr
 checked-any P false true l r h i s k = s ins
@@ -48,7 +50,8 @@ checked-any P false false false false false i s k = k refl
 fetched-as : (s : Plain) → Fetched (s .machine .address) (fetched s)
 unfolding fetched fetch parsed stopping isBad
 fetched-as s =
-    checked-any (Fetched (s .machine .address)) _ _ _ _ _ _ (λ x. record { here = refl; nop = λ h. refl }) (λ n. record { here = refl; nop = λ h. absurd (true≢false (sym h)) })
+    checked-any (Fetched (s .machine .address)) _ _ _ _ _ _ (λ x. record { here = refl; nop = λ h. refl })
+    (λ n. record { here = refl; nop = λ h. absurd (true≢false (sym h)) })
 
 pub fetched-address : (s : Plain) → fetched s .address ≡ s .machine .address
 fetched-address s = fetched-as s .here
@@ -199,7 +202,8 @@ module _ (s : Plain) (r : isStopped s ≡ false) where
     step-registers = ap (λ x. x .machine .registers) goes
 
     address-next : step s .machine .address
-        ≡ cond (is ret (fetched s)) (accessed s .word) (cond (is jump (fetched s)) (turned (executed s .instruction) (executed s .holds)) (straight (executed s .instruction)))
+        ≡ cond (is ret (fetched s)) (accessed s .word)
+        (cond (is jump (fetched s)) (turned (executed s .instruction) (executed s .holds)) (straight (executed s .instruction)))
     unfolding performed accessed access executed execute decoded decode nextAddress
     address-next = ap (λ x. x .machine .address) goes
 
@@ -251,7 +255,8 @@ length-steps s h zero = h
 length-steps s h (suc n) = length-step (steps s n) ∙ length-steps s h n
 
 -- where no word is loaded, past the result is past both
-pub past-unloaded : (s : Plain) (q v : ℕ) → meets (loadedTarget (decoded s .instruction)) q ≡ false → pastBoth (inW (accessed s)) q v ≡ pastResult (inM (executed s)) q v
+pub past-unloaded : (s : Plain) (q v : ℕ) → meets (loadedTarget (decoded s .instruction)) q ≡ false
+    → pastBoth (inW (accessed s)) q v ≡ pastResult (inM (executed s)) q v
 unfolding pastBoth pastResult accessed access executed execute
 past-unloaded s q v h = cc
 
@@ -286,7 +291,8 @@ module _ (g : Settings) (k : Retired) where
         go (a-return a b d) = cc (loadUse-none g (k .instruction) j d)
         go (another a b) = cc
 
-    pub behind-other : mispredicted g (k .instruction) (k .holds) ≡ false → is ret (k .instruction) ≡ false → amount (reasonBehind g k j) ≡ bit (loadUse g (k .instruction) j)
+    pub behind-other : mispredicted g (k .instruction) (k .holds) ≡ false → is ret (k .instruction) ≡ false
+        → amount (reasonBehind g k j) ≡ bit (loadUse g (k .instruction) j)
     unfolding reasonBehind amount bit
     behind-other m t = go (loadUse g (k .instruction) j) refl
       where

@@ -11,7 +11,8 @@ use Rattle.machine.specs.Charges.{due}
 use Rattle.machine.specs.Pipeline.{Piped, clocks}
 use Rattle.machine.specs.Premise.{Untouched}
 use Rattle.account.specs.Statement.{Start, plainFrom, pipedFrom, DueBy}
-use Rattle.account.specs.Relation.{Beyond, AtE, BehindM, AtM, AtW, beyondE, stopE, emptyE, fullE, goesM, retM, beyondM, stopM, emptyM, fullM, beyondW, emptyW, fullW}
+use Rattle.account.specs.Relation.{Beyond, AtE, BehindM, AtM, AtW, beyondE, stopE, emptyE, fullE}
+use Rattle.account.specs.Relation.{goesM, retM, beyondM, stopM, emptyM, fullM, beyondW, emptyW, fullW}
 use Rattle.account.specs.Timing.{Older, older-later, older-next, exactly, exactly-stopped, due-grows, late-E, late-M}
 use Rattle.account.specs.Theorem.{After, Now, going, ended, after-clocks}
 

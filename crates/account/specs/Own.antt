@@ -4,13 +4,15 @@ use Prim.Native.Nat.{ℕ, zero, suc, _+_, _≤_}
 use mathlib.Core.Bool.{Bool, true, false}
 use mathlib.Core.Path.{_≡_, refl, ap, sym, _∙_, subst}
 use native.Mathlib.Omega.{arith}
-use Rattle.account.specs.Names.{Instruction, Decoded, Executed, Accessed, Retired, Kept, noneKept, lastKept, StageD, bubbleD, inD, bubbleE, inE, bubbleM, inM, bubbleW, inW}
+use Rattle.account.specs.Names.{Instruction, Decoded, Executed, Accessed, Retired, Kept, noneKept, lastKept}
+use Rattle.account.specs.Names.{StageD, bubbleD, inD, bubbleE, inE, bubbleM, inM, bubbleW, inW}
 use Rattle.machine.specs.Types.{isBad}
 use Rattle.machine.specs.Table.{is, ret}
 use Rattle.machine.specs.Stages.{decode, execute, access}
 use Rattle.machine.specs.Prediction.{Settings, mispredicted}
 use Rattle.machine.specs.Charges.{noKinds, amount, reasonBehind, reasonFrom, retiredOf}
-use Rattle.machine.specs.Pipeline.{Piped, pipeStart, waits, mispredicts, fails, retInE, retInM, fetchedNow, source, retiredAfter, kindsAfter, keptAfter, advanced, stoppedIn, clock, clocks}
+use Rattle.machine.specs.Pipeline.{Piped, pipeStart, waits, mispredicts, fails, retInE, retInM, fetchedNow}
+use Rattle.machine.specs.Pipeline.{source, retiredAfter, kindsAfter, keptAfter, advanced, stoppedIn, clock, clocks}
 use Rattle.account.specs.Statement.{Start, pipedFrom}
 use Rattle.account.specs.Laws
 use Rattle.account.specs.Laws.{bit}
@@ -53,7 +55,8 @@ module _ (g : Settings) (p : Piped) (c : ℕ) where
 
   data OwnM (k : Kept) (b : ℕ) : Type 0 where
     emptyM : p .pipeline .m ≡ bubbleM → OwnE k b → OwnM k b
-    fullM : (x : Executed) → p .pipeline .m ≡ inM x → behind g k b (x .instruction) ≡ c + 2 → (fails p ≡ false → BehindM x (behind g k b (x .instruction))) → OwnM k b
+    fullM : (x : Executed) → p .pipeline .m ≡ inM x → behind g k b (x .instruction) ≡ c + 2 → (fails p ≡ false → BehindM x (behind g k b (x .instruction)))
+        → OwnM k b
 
   data OwnW (k : Kept) (b : ℕ) : Type 0 where
     emptyW : p .pipeline .w ≡ bubbleW → OwnM k b → OwnW k b
@@ -77,13 +80,15 @@ module _ (g : Settings) (p : Piped) (c : ℕ) where
     unfolding x′
     e′ = Signals.e-of g p i w (v .right) h
 
-    fetch-behind : mispredicts g (advanced g p) ≡ false → is ret i ≡ false → OwnD g (advanced g p) (suc c) (lastKept (retiring (execute x′ (advanced g p .pipeline .codes)))) b
+    fetch-behind : mispredicts g (advanced g p) ≡ false → is ret i ≡ false
+        → OwnD g (advanced g p) (suc c) (lastKept (retiring (execute x′ (advanced g p .pipeline .codes)))) b
     unfolding x′ behind reasonFrom decode execute waitsFor
     fetch-behind m r =
         fullD (fetchedNow g p) d′
         (omega (
           arith,
-          Laws.behind-other g (retiring (execute x′ (advanced g p .pipeline .codes))) (fetchedNow g p) (sym (Signals.mispredicts-of g (advanced g p) x′ e′) ∙ m) r,
+          Laws.behind-other g (retiring (execute x′ (advanced g p .pipeline .codes))) (fetchedNow g p)
+              (sym (Signals.mispredicts-of g (advanced g p) x′ e′) ∙ m) r,
           ap bit (Signals.waits-next g p (fetchedNow g p) w (v .right) d′),
           ap (λ (d : StageD). bit (waitsFor g d (fetchedNow g p))) h,
         ))
@@ -149,7 +154,8 @@ module _ (g : Settings) (p : Piped) (c : ℕ) where
   into-W : (k : Kept) (b : ℕ) → OwnM g p c k b → OwnW g (advanced g p) (suc c) k b
   unfolding access retiredOf
   into-W k b (emptyM h e) = emptyW (Signals.w-bubble g p h) (into-M (Signals.retM-bubble g p h) (Signals.fails-bubble g p h) k b e)
-  into-W k b (fullM x h t a) = fullW (access x (p .memory)) (Signals.w-of g p x h) (omega arith) (λ s. moved (Signals.fails-of g p x h ∙ s) (a (Signals.fails-of g p x h ∙ s)))
+  into-W k b (fullM x h t a) =
+      fullW (access x (p .memory)) (Signals.w-of g p x h) (omega arith) (λ s. moved (Signals.fails-of g p x h ∙ s) (a (Signals.fails-of g p x h ∙ s)))
     where
       b′ : ℕ
       b′ = behind g k b (x .instruction)
@@ -192,7 +198,8 @@ module _ (g : Settings) (p : Piped) (c : ℕ) (y : p .pipeline .cycles ≡ c) wh
       = omega (arith, k .retired, ap total (k .kinds), total-counted (p .pipeline .kinds) (reasonFrom g (p .pipeline .kept) (w .instruction))) in
       (e, omega (arith, k .counts))
 
-  next-bubble : p .pipeline .retired + total (p .pipeline .kinds) ≤ c → p .pipeline .w ≡ bubbleW → OwnM g p c (p .pipeline .kept) (accounted p) → Next g p (advanced g p)
+  next-bubble : p .pipeline .retired + total (p .pipeline .kinds) ≤ c → p .pipeline .w ≡ bubbleW → OwnM g p c (p .pipeline .kept) (accounted p)
+      → Next g p (advanced g p)
   unfolding advanced retiredAfter kindsAfter keptAfter accounted isBad
   next-bubble l h a =
       record {
@@ -258,7 +265,8 @@ module _ (g : Settings) (t : Start) where
   on-account c = own-next g (clocks g (pipedFrom t) c) (own-clocks c) .on-account
 
   -- so the counts never pass the cycles
-  pub counts-within : (c : ℕ) → clocks g (pipedFrom t) c .pipeline .retired + total (clocks g (pipedFrom t) c .pipeline .kinds) ≤ clocks g (pipedFrom t) c .pipeline .cycles
+  pub counts-within : (c : ℕ)
+      → clocks g (pipedFrom t) c .pipeline .retired + total (clocks g (pipedFrom t) c .pipeline .kinds) ≤ clocks g (pipedFrom t) c .pipeline .cycles
   counts-within c = go (clocks g (pipedFrom t) c) (own-clocks c)
     where
       go : (p : Piped) → Own g p → p .pipeline .retired + total (p .pipeline .kinds) ≤ p .pipeline .cycles

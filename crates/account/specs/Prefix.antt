@@ -22,7 +22,8 @@ pub begins-all : {l a : List ℕ} → l ≡ a → Begins l a
 begins-all {a = a} e = record { rest = []; whole = e ∙ sym (append-nil a) }
 
 begins-further : {a b l : List ℕ} → Begins b a → Begins l b → Begins l a
-begins-further {a} x y = record { rest = x .rest ++ y .rest; whole = y .whole ∙ (ap (λ (z : List ℕ). z ++ y .rest) (x .whole) ∙ append-assoc a (x .rest) (y .rest)) }
+begins-further {a} x y =
+    record { rest = x .rest ++ y .rest; whole = y .whole ∙ (ap (λ (z : List ℕ). z ++ y .rest) (x .whole) ∙ append-assoc a (x .rest) (y .rest)) }
 
 -- a clock writes behind what is logged
 record Longer (p q : Piped) : Type 0 where
@@ -52,7 +53,8 @@ longer g p c (suc d) =
 -- instruction k + 1 is performed, within the premise, and due by clock c: whatever c is, and whatever comes after
 pub logs-begin : (g : Settings) (t : Start) → length (t .registers) ≡ 15 → (k : ℕ) → Untouched (plainFrom t) (suc k) → isStopped (steps (plainFrom t) k) ≡ false
     → (c : ℕ) → due g (plainFrom t) (suc k) ≤ c
-    → Begins (clocks g (pipedFrom t) c .addressLog) (steps (plainFrom t) (suc k) .log) × Begins (clocks g (pipedFrom t) c .cycleLog) (dueCycles g (plainFrom t) (suc k))
+    → Begins (clocks g (pipedFrom t) c .addressLog) (steps (plainFrom t) (suc k) .log) × Begins (clocks g (pipedFrom t) c .cycleLog)
+    (dueCycles g (plainFrom t) (suc k))
 logs-begin g t l k u r c q =
     let d = due g (plainFrom t) (suc k) in
     let e : (c - d) + d ≡ c = omega arith in

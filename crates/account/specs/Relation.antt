@@ -61,12 +61,14 @@ module _ (g : Settings) (s : Plain) (K : ℕ) where
     beyondE : Beyond n → AtE p c n
     stopE : isStopped (steps s n) ≡ true → p .pipeline .codes ≡ steps s n .machine .codes → AtE p c n
     emptyE : p .pipeline .codes ≡ steps s n .machine .codes → p .pipeline .e ≡ bubbleE → AtD p c n → AtE p c n
-    fullE : Known n → p .pipeline .codes ≡ steps s n .machine .codes → p .pipeline .e ≡ inE (decoded (steps s n)) → due g s (suc n) ≡ c + 3 → BehindE p c n → AtE p c n
+    fullE : Known n → p .pipeline .codes ≡ steps s n .machine .codes → p .pipeline .e ≡ inE (decoded (steps s n)) → due g s (suc n) ≡ c + 3 → BehindE p c n
+        → AtE p c n
 
   -- ... than the one in M: a wrong guess is mended by now, and behind a return E and D are empty
   pub data BehindM (p : Piped) (c n : ℕ) : Type 0 where
     goesM : is ret (fetched (steps s n)) ≡ false → AtE p c (suc n) → BehindM p c n
-    retM : is ret (fetched (steps s n)) ≡ true → p .pipeline .codes ≡ steps s (suc n) .machine .codes → p .pipeline .e ≡ bubbleE → p .pipeline .d ≡ bubbleD → BehindM p c n
+    retM : is ret (fetched (steps s n)) ≡ true → p .pipeline .codes ≡ steps s (suc n) .machine .codes → p .pipeline .e ≡ bubbleE → p .pipeline .d ≡ bubbleD
+        → BehindM p c n
 
   -- memory is the plain engine's of the instruction that M has next
   pub data AtM (p : Piped) (c n : ℕ) : Type 0 where
@@ -79,4 +81,5 @@ module _ (g : Settings) (s : Plain) (K : ℕ) where
   pub data AtW (p : Piped) (c n : ℕ) : Type 0 where
     beyondW : Beyond n → p .pipeline .registers ≡ steps s n .machine .registers → AtW p c n
     emptyW : isStopped (steps s n) ≡ false → p .pipeline .registers ≡ steps s n .machine .registers → p .pipeline .w ≡ bubbleW → AtM p c n → AtW p c n
-    fullW : Known n → p .pipeline .registers ≡ steps s n .machine .registers → p .pipeline .w ≡ inW (accessed (steps s n)) → due g s (suc n) ≡ c + 1 → AtM p c (suc n) → AtW p c n
+    fullW : Known n → p .pipeline .registers ≡ steps s n .machine .registers → p .pipeline .w ≡ inW (accessed (steps s n)) → due g s (suc n) ≡ c + 1
+        → AtM p c (suc n) → AtW p c n

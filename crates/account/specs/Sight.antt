@@ -92,7 +92,8 @@ same-bytes m m′ a h = ap (λ (n : ℕ). take n (drop a m)) (same-size m m′ a
         let z : i < min (sizeAt m′ a) (length m - a) = simp (length-take, length-drop) at q in
         let e = h .long in
         getD-take (sizeAt m′ a) (drop a m) i 0 (omega arith)
-        ∙ (getD-drop a m i 0 ∙ (h .at (a + i) (omega arith) (omega arith) (omega arith) ∙ sym (getD-take (sizeAt m′ a) (drop a m′) i 0 (omega arith) ∙ getD-drop a m′ i 0)))
+        ∙ (getD-drop a m i 0 ∙ (h .at (a + i) (omega arith) (omega arith) (omega arith)
+        ∙ sym (getD-take (sizeAt m′ a) (drop a m′) i 0 (omega arith) ∙ getD-drop a m′ i 0)))
 
 same-fetch : (m m′ : Memory) (a : ℕ) → Same m m′ a → fetch m a ≡ fetch m′ a
 unfolding fetch
@@ -127,7 +128,8 @@ module _ (g : Settings) (s : Plain) (K : ℕ) (u : Untouched s K) where
       let q : j ≡ n = omega arith in
       rw q (record { long = refl; at = λ x _ _ _. refl })
   back (suc d) j n e b l =
-      same-back (steps s j) (steps s n .memory) (steps s n .machine .address) (runs-before s (suc d) j n e (l .runs)) (back d (suc j) n (omega arith) (omega arith) l)
+      same-back (steps s j) (steps s n .memory) (steps s n .machine .address) (runs-before s (suc d) j n e (l .runs))
+      (back d (suc j) n (omega arith) (omega arith) l)
       (λ x st lo hi q. u j n (omega arith) (omega arith) (l .below) (l .runs) x st (cc (le-leb _ _ lo, lt-ltb _ _ hi, lt-ltb _ _ q)))
 
   pub sight : (j n : ℕ) → j ≤ n → n ≤ j + 3 → Known g s K n → fetch (steps s j .memory) (steps s n .machine .address) ≡ fetched (steps s n)

@@ -2,14 +2,17 @@
 use Prim.Native.Nat.{ℕ}
 use mathlib.Core.Bool.{Bool, true, false, cond, _||_}
 use mathlib.Core.Path.{_≡_, refl, _∙_}
-use Rattle.account.specs.Names.{Instruction, Decoded, Executed, Accessed, StageD, bubbleD, inD, StageE, bubbleE, inE, StageM, bubbleM, inM, StageW, bubbleW, inW}
+use Rattle.account.specs.Names.{Instruction, Decoded, Executed, Accessed}
+use Rattle.account.specs.Names.{StageD, bubbleD, inD, StageE, bubbleE, inE, StageM, bubbleM, inM, StageW, bubbleW, inW}
 use Rattle.machine.specs.Types.{isBad}
 use Rattle.machine.specs.Memory.{value}
 use Rattle.machine.specs.Table.{is, ret}
 use Rattle.machine.specs.Stages.{decode, execute, access, newCodes, newMemory, newRegisters, loadedTarget, sourceA, sourceB, turned}
 use Rattle.machine.specs.Plain.{Plain, fetched, decoded, executed, accessed}
 use Rattle.machine.specs.Prediction.{Settings, predictedNext, mispredicted, meets, loadUse}
-use Rattle.machine.specs.Pipeline.{Piped, afterE, afterM, codesAfter, memoryAfter, registersAfter, pastResult, pastBoth, sourceW, sourceM, source, waitsBehind, waits, wrong, mispredicts, retInD, retInE, retInM, returns, badInW, fails, returnedTo, mended, fetchAddress, fetchedNow, nextF, nextD, decodedD, nextE, nextM, nextCodes, advanced}
+use Rattle.machine.specs.Pipeline.{Piped, afterE, afterM, codesAfter, memoryAfter, registersAfter, pastResult, pastBoth, sourceW, sourceM}
+use Rattle.machine.specs.Pipeline.{source, waitsBehind, waits, wrong, mispredicts, retInD, retInE, retInM, returns, badInW, fails}
+use Rattle.machine.specs.Pipeline.{returnedTo, mended, fetchAddress, fetchedNow, nextF, nextD, decodedD, nextE, nextM, nextCodes, advanced}
 use Rattle.account.specs.Laws.{or-true, wrongAt}
 use Rattle.laws.specs.Tests.{neither}
 
@@ -248,7 +251,8 @@ module _ (g : Settings) (p : Piped) where
   sourceW-in w q h = cc
 
   -- LOAD-USE: without a wait no source is being loaded
-  pub unloaded : (i : Instruction) → p .pipeline .d ≡ inD i → waits g p ≡ false → (loadsInto (p .pipeline .e) (sourceA i) ≡ false) × (loadsInto (p .pipeline .e) (sourceB i) ≡ false)
+  pub unloaded : (i : Instruction) → p .pipeline .d ≡ inD i → waits g p ≡ false
+      → (loadsInto (p .pipeline .e) (sourceA i) ≡ false) × (loadsInto (p .pipeline .e) (sourceB i) ≡ false)
   unfolding waits waitsBehind loadUse loadsInto
   unloaded i h w = go (p .pipeline .e) (p .pipeline .d) h w
     where
@@ -259,7 +263,8 @@ module _ (g : Settings) (p : Piped) where
           neither (meets (loadedTarget (x .instruction)) (sourceA i)) (meets (loadedTarget (x .instruction)) (sourceB i)) k
 
   -- the wait of the next clock, when the instruction i has been fetched
-  pub waits-next : (i : Instruction) → waits g p ≡ false → mispredicts g p ≡ false → advanced g p .pipeline .d ≡ inD i → waits g (advanced g p) ≡ waitsFor g (p .pipeline .d) i
+  pub waits-next : (i : Instruction) → waits g p ≡ false → mispredicts g p ≡ false → advanced g p .pipeline .d ≡ inD i
+      → waits g (advanced g p) ≡ waitsFor g (p .pipeline .d) i
   unfolding waits advanced waitsBehind nextE decodedD decode waitsFor
   waits-next i w m h = rw h (go (p .pipeline .d) (advanced g p .pipeline .e) (cc))
     where
@@ -280,7 +285,8 @@ module _ (g : Settings) (p : Piped) where
       goW bubbleW b = refl
       goW (inW w) b = cc
 
-  pub at-mended : (x : Executed) → p .pipeline .m ≡ inM x → mispredicted g (x .instruction) (x .holds) ≡ true → fetchAddress g p ≡ turned (x .instruction) (x .holds)
+  pub at-mended : (x : Executed) → p .pipeline .m ≡ inM x → mispredicted g (x .instruction) (x .holds) ≡ true
+      → fetchAddress g p ≡ turned (x .instruction) (x .holds)
   unfolding fetchAddress mended
   at-mended x h k = cc
 

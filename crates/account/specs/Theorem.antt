@@ -11,7 +11,8 @@ use Rattle.machine.specs.Types.{isBad}
 use Rattle.machine.specs.Plain.{Plain, plainStart, isStopped, fetched, accessed, stoppedBy, steps}
 use Rattle.machine.specs.Prediction.{Settings}
 use Rattle.machine.specs.Charges.{reasonFrom, reasonOf, kindsOf, charge, charges, amount, due, dueCycles}
-use Rattle.machine.specs.Pipeline.{Piped, pipeStart, waits, waitsBehind, mended, returnedTo, fetchAddress, lastAfter, retiredAfter, kindsAfter, keptAfter, logged, advanced, stoppedIn, clock, clocks}
+use Rattle.machine.specs.Pipeline.{Piped, pipeStart, waits, waitsBehind, mended, returnedTo, fetchAddress, lastAfter}
+use Rattle.machine.specs.Pipeline.{retiredAfter, kindsAfter, keptAfter, logged, advanced, stoppedIn, clock, clocks}
 use Rattle.machine.specs.Premise.{Untouched}
 use Rattle.account.specs.Statement.{Start, plainFrom, pipedFrom, DueBy, keptOf, Agrees, Demand3}
 use Rattle.account.specs.Laws
@@ -63,7 +64,8 @@ module _ (g : Settings) (s : Plain) (k : ℕ) where
   module _ (p : Piped) (c n : ℕ) (i : After p c n) where
     agrees-with : DueBy g s c n → p .pipeline .registers ≡ steps s n .machine .registers → p .pipeline .status ≡ steps s n .machine .status
         → (isBad (p .pipeline .status) ≡ false → (p .pipeline .kept ≡ keptOf s n) × (p .pipeline .cycles ≡ c))
-        → (isBad (p .pipeline .status) ≡ true → (p .memory ≡ steps s n .memory) × (p .pipeline .codes ≡ steps s n .machine .codes) × (p .pipeline .cycles ≡ due g s n))
+        → (isBad (p .pipeline .status) ≡ true → (p .memory ≡ steps s n .memory) × (p .pipeline .codes ≡ steps s n .machine .codes)
+        × (p .pipeline .cycles ≡ due g s n))
         → Agrees g s p c n
     agrees-with d r st on off =
         let k = i .counts in
@@ -91,9 +93,11 @@ module _ (g : Settings) (s : Plain) (k : ℕ) where
 
         go : Now p c n → Agrees g s p c n
         go (going h y v a) =
-            agrees-with (exactly g s (i .older) (λ _. late (late-W g s (suc k) p c n a))) (W-registers p c n a) (h ∙ sym (sound (steps s n .machine .status) (W-runs p c n a))) (λ _. (v, y))
+            agrees-with (exactly g s (i .older) (λ _. late (late-W g s (suc k) p c n a))) (W-registers p c n a)
+            (h ∙ sym (sound (steps s n .machine .status) (W-runs p c n a))) (λ _. (v, y))
             (λ b. absurd (true≢false (sym b ∙ ap isBad h)))
-        go (ended h st r cd m y) = agrees-with (exactly-stopped g s (i .older) h) r st (λ b. absurd (true≢false (sym h ∙ (sym (ap isBad st) ∙ b)))) (λ _. (m, cd, y))
+        go (ended h st r cd m y) =
+            agrees-with (exactly-stopped g s (i .older) h) r st (λ b. absurd (true≢false (sym h ∙ (sym (ap isBad st) ∙ b)))) (λ _. (m, cd, y))
 
   -- ONE CLOCK
   counted-next : (p p′ : Piped) (c n : ℕ) → Counted p n → Books g p p′ (accessed (steps s n)) → p .pipeline .cycles ≡ c → p .pipeline .kept ≡ keptOf s n
@@ -115,7 +119,8 @@ module _ (g : Settings) (s : Plain) (k : ℕ) where
       now = omega arith
 
   module _ (len : (n : ℕ) → length (steps s n .machine .registers) ≡ 15) (u : Untouched s (suc k)) where
-    module _ (p : Piped) (c n : ℕ) (i : Counted p n) (o : Older g s c n) (y : p .pipeline .cycles ≡ c) (v : p .pipeline .kept ≡ keptOf s n) (h : p .pipeline .registers ≡ steps s n .machine .registers) where
+    module _ (p : Piped) (c n : ℕ) (i : Counted p n) (o : Older g s c n) (y : p .pipeline .cycles ≡ c) (v : p .pipeline .kept ≡ keptOf s n)
+        (h : p .pipeline .registers ≡ steps s n .machine .registers) where
       after-bubble : isStopped (steps s n) ≡ false → p .pipeline .w ≡ bubbleW → AtM g s (suc k) p c n → After (advanced g p) (suc c) n
       unfolding advanced lastAfter retiredAfter kindsAfter keptAfter logged
       after-bubble r w a =
@@ -144,7 +149,12 @@ module _ (g : Settings) (s : Plain) (k : ℕ) where
 
         after-stops : isStopped (steps s (suc n)) ≡ true → After (stoppedIn g p (accessed (steps s n))) (suc c) (suc n)
         unfolding steps stoppedIn stoppedBy
-        after-stops r = record { counts = counted-next p _ c n i (books-stops g p (accessed (steps s n))) y v (l .runs) t; older = older-next g s o (l .runs) (suc c) (omega arith) (omega arith); now = go a }
+        after-stops r =
+            record {
+              counts = counted-next p _ c n i (books-stops g p (accessed (steps s n))) y v (l .runs) t;
+              older = older-next g s o (l .runs) (suc c) (omega arith) (omega arith);
+              now = go a;
+            }
           where
             e : steps s (suc n) ≡ stoppedBy (steps s n) (accessed (steps s n) .status)
             e = Laws.step-stopped (steps s n) (l .runs) (sym (Laws.step-stops (steps s n) (l .runs)) ∙ r)
@@ -159,7 +169,8 @@ module _ (g : Settings) (s : Plain) (k : ℕ) where
     unfolding steps isStopped isBad
     after-clock p c n q i = go (i .now)
       where
-        full : (b : Bool) → isStopped (steps s (suc n)) ≡ b → isBad (p .pipeline .status) ≡ false → p .pipeline .cycles ≡ c → p .pipeline .kept ≡ keptOf s n → Known g s (suc k) n
+        full : (b : Bool) → isStopped (steps s (suc n)) ≡ b → isBad (p .pipeline .status) ≡ false → p .pipeline .cycles ≡ c → p .pipeline .kept ≡ keptOf s n
+            → Known g s (suc k) n
             → p .pipeline .registers ≡ steps s n .machine .registers → p .pipeline .w ≡ inW (accessed (steps s n)) → due g s (suc n) ≡ c + 1
             → AtM g s (suc k) p c (suc n) → (n′ : ℕ) × After (clock g p) (suc c) n′
         full true r st y v l h w t a = (
@@ -175,7 +186,8 @@ module _ (g : Settings) (s : Plain) (k : ℕ) where
 
         go : Now p c n → (n′ : ℕ) × After (clock g p) (suc c) n′
         go (going st y v (beyondW b h)) = absurd (omega (arith, i .older .arrived k (b .above)))
-        go (going st y v (emptyW r h w a)) = (n, subst (λ (z : Piped). After z (suc c) n) (sym (clock-bubble g p (ap isBad st) w)) (after-bubble p c n (i .counts) (i .older) y v h r w a))
+        go (going st y v (emptyW r h w a)) =
+            (n, subst (λ (z : Piped). After z (suc c) n) (sym (clock-bubble g p (ap isBad st) w)) (after-bubble p c n (i .counts) (i .older) y v h r w a))
         go (going st y v (fullW l h w t a)) = full (isStopped (steps s (suc n))) refl (ap isBad st) y v l h w t a
         go (ended r st h kc km y) = (
           n,
@@ -185,12 +197,15 @@ module _ (g : Settings) (s : Plain) (k : ℕ) where
 
 module _ (g : Settings) (t : Start) (k : ℕ) where
   start-after : After g (plainFrom t) k (pipedFrom t) 0 0
-  unfolding plainFrom pipedFrom plainStart pipeStart steps isStopped isBad dueCycles kindsOf keptOf due charges charge reasonOf amount bit waits waitsBehind waitsFor fetchAddress mended returnedTo
+  unfolding plainFrom pipedFrom plainStart pipeStart steps isStopped isBad dueCycles kindsOf keptOf due charges charge reasonOf amount bit
+      waits waitsBehind waitsFor fetchAddress mended returnedTo
   start-after =
       record {
         counts = record { retired = refl; addresses = refl; cycles = refl; kinds = refl; last = refl };
         older = record { performed = λ j q. absurd (omega arith); arrived = λ j q. absurd (omega arith) };
-        now = going refl refl refl (emptyW refl refl refl (emptyM refl refl refl (emptyE refl refl (emptyD refl (readyF (record { runs = refl; below = omega arith }) refl (inl refl) refl)))));
+        now =
+            going refl refl refl (emptyW refl refl refl
+            (emptyM refl refl refl (emptyE refl refl (emptyD refl (readyF (record { runs = refl; below = omega arith }) refl (inl refl) refl)))));
       }
 
   pub after-clocks : length (t .registers) ≡ 15 → Untouched (plainFrom t) (suc k) → (c : ℕ) → c ≤ due g (plainFrom t) (suc k)

@@ -11,7 +11,8 @@ use Rattle.machine.specs.Prediction.{Settings}
 use Rattle.machine.specs.Charges.{Reason, free, waited, wronglyGuessed, returned, amount, noKinds, counted, reasonOf, charge, charges, kindsOf, due}
 use Rattle.machine.specs.Pipeline.{Piped}
 use Rattle.account.specs.Statement.{DueBy}
-use Rattle.account.specs.Relation.{Beyond, AtF, AtD, AtE, AtM, AtW, beyondF, stopF, readyF, beyondD, stopD, emptyD, fullD, beyondE, stopE, emptyE, fullE, beyondM, stopM, emptyM, fullM, beyondW, emptyW, fullW}
+use Rattle.account.specs.Relation.{Beyond, AtF, AtD, AtE, AtM, AtW, beyondF, stopF, readyF, beyondD, stopD, emptyD, fullD}
+use Rattle.account.specs.Relation.{beyondE, stopE, emptyE, fullE, beyondM, stopM, emptyM, fullM, beyondW, emptyW, fullW}
 
 -- THE ACCOUNT
 -- a property of the first n + 1, from that of the first n and of the next
@@ -34,7 +35,8 @@ due-order g s k zero h =
     let e : k ≡ 0 = omega arith in
     rw e (omega arith)
 due-order g s k (suc n) h =
-    up-to {P = λ (i : ℕ). due g s i + suc n ≤ due g s (suc n) + i} (suc n) (λ i q. omega (arith, due-order g s i n (omega arith), due-grows g s n)) (omega arith) k
+    up-to {P = λ (i : ℕ). due g s i + suc n ≤ due g s (suc n) + i} (suc n) (λ i q. omega (arith, due-order g s i n (omega arith), due-grows g s n))
+    (omega arith) k
     (omega arith)
 
 -- the first n instructions are performed, and due by cycle c

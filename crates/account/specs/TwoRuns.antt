@@ -19,7 +19,8 @@ use Rattle.machine.specs.Prediction.{Settings}
 use Rattle.machine.specs.Charges.{kindsOf, due, dueCycles}
 use Rattle.machine.specs.Pipeline.{pipedOf, clocks}
 use Rattle.machine.specs.Premise.{Untouched}
-use Rattle.machine.specs.Runs.{laid, sizeRefused, budgetRefused, logRefused, recordRefused, plainLimit, pipeLimit, plainAnswer, pipeAnswer, lowest, plainRefusal, PlainAnswer, plainDone, plainBy, plainRun, pipeRefusal, PipeAnswer, pipeDone, pipeBy, pipeRun, pipeRunUnlogged}
+use Rattle.machine.specs.Runs.{laid, sizeRefused, budgetRefused, logRefused, recordRefused, plainLimit, pipeLimit, plainAnswer, pipeAnswer, lowest}
+use Rattle.machine.specs.Runs.{plainRefusal, PlainAnswer, plainDone, plainBy, plainRun, pipeRefusal, PipeAnswer, pipeDone, pipeBy, pipeRun, pipeRunUnlogged}
 use Rattle.account.specs.Statement.{Start, plainFrom, pipedFrom, DueBy, keptOf, Agrees}
 use Rattle.account.specs.Laws.{step-logs}
 use Rattle.laws.specs.Tests.{neither}
@@ -215,7 +216,8 @@ module _ (g : Settings) (t : Start) where
   log-at : (n : ℕ) → ((i : ℕ) → i < n → isStopped (steps (plainFrom t) i) ≡ false)
       → Lists (steps (plainFrom t) n .log) (λ i. steps (plainFrom t) i .machine .address) n
   unfolding steps plainFrom
-  log-at n f = listed (λ i. steps (plainFrom t) i .log) (λ i. steps (plainFrom t) i .machine .address) n refl (λ i h. step-logs (steps (plainFrom t) i) (f i h) .log)
+  log-at n f =
+      listed (λ i. steps (plainFrom t) i .log) (λ i. steps (plainFrom t) i .machine .address) n refl (λ i h. step-logs (steps (plainFrom t) i) (f i h) .log)
 
   due-at : (n : ℕ) → Lists (dueCycles g (plainFrom t) n) (λ i. due g (plainFrom t) (suc i)) n
   unfolding dueCycles

@@ -1,5 +1,6 @@
 // Budgets, logs, answers: what the entries of both engines and of the host edge share.
 use machine::Codes;
+use machine::MEMORY_LIMIT;
 ghost use mathlib.Core.Path.{_≡_};
 ghost use mathlib.Core.Bool.{cond};
 ghost use Prim.Native.Nat.{_≤_};
@@ -11,7 +12,7 @@ ghost use Rattle.machine.specs.Runs.{sizeRefused, budgetRefused};
 pub fn size_refused(size: usize) -> bool
     ensures { λ r. ⌜ r ≡ sizeRefused size ⌝ }
 {
-    (size == 0) | (4096 < size)
+    (size == 0) | (MEMORY_LIMIT < size)
 }
 
 // Refusal 3: no budget, or one that passes the limit; no sum is made that could wrap.

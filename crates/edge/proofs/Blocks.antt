@@ -62,7 +62,9 @@ reads-more b words k v h lt room got =
       so-far =
           ap (λ (x : ℕ). take x (set words k v)) (add-one k)
           ∙ (take-suc-set words k v (omega (arith, h .long))
-          ∙ (ap (λ (l : List ℕ). l ++ v ∷ []) (h .so-far) ∙ (ap (λ (x : ℕ). wordsIn k b 0 ++ x ∷ []) (e ∙ ap (number 8 b) (sym z)) ∙ (sym (words-more k b 0) ∙ ap (λ (x : ℕ). wordsIn x b 0) (sym (add-one k))))));
+          ∙ (ap (λ (l : List ℕ). l ++ v ∷ []) (h .so-far) ∙
+          (ap (λ (x : ℕ). wordsIn k b 0 ++ x ∷ []) (e ∙ ap (number 8 b) (sym z)) ∙
+          (sym (words-more k b 0) ∙ ap (λ (x : ℕ). wordsIn x b 0) (sym (add-one k))))));
       long = length-set words k v ∙ h .long;
       within = omega arith;
     }
@@ -84,7 +86,8 @@ pub writes-first : (b₀ words : List ℕ) → Writes b₀ words b₀ 0
 unfolding withWords
 writes-first b₀ words = record { so-far = refl; within = omega arith }
 
-pub writes-more : (b₀ words b b′ : List ℕ) (k : ℕ) → Writes b₀ words b k → k < length words → 8 * length words ≤ length b₀ → b′ ≡ store b (8 * k) (getD words k 0) → Writes b₀ words b′ (k + 1)
+pub writes-more : (b₀ words b b′ : List ℕ) (k : ℕ) → Writes b₀ words b k → k < length words → 8 * length words ≤ length b₀
+    → b′ ≡ store b (8 * k) (getD words k 0) → Writes b₀ words b′ (k + 1)
 writes-more b₀ words b b′ k h lt room put =
     let e = store-there b b′ (8 * k) (getD words k 0) (omega (arith, writes-length h)) put in
     let n = length-take-le k words (h .within) in
@@ -94,7 +97,8 @@ writes-more b₀ words b b′ k h lt room put =
           e
           ∙ (ap (λ (x : List ℕ). placed 8 x (8 * k) (getD words k 0)) (h .so-far)
           ∙ (ap (λ (x : ℕ). placed 8 (withWords (take k words) b₀ 0) x (getD words k 0)) z
-          ∙ (sym (with-more (take k words) (getD words k 0) b₀ 0) ∙ ap (λ (l : List ℕ). withWords l b₀ 0) (sym (take-suc words k 0 lt) ∙ ap (λ (x : ℕ). take x words) (sym (add-one k))))));
+          ∙ (sym (with-more (take k words) (getD words k 0) b₀ 0) ∙ ap (λ (l : List ℕ). withWords l b₀ 0)
+          (sym (take-suc words k 0 lt) ∙ ap (λ (x : ℕ). take x words) (sym (add-one k))))));
       within = omega arith;
     }
 

@@ -58,23 +58,32 @@ pub record Allowed (memory registers result budget : ℕ) : Type 0 where
   pub budgeted : budgetRefused pipeLimit 0 budget ≡ false
   pub room : result ≡ 40
 
-pub allowed : (memory registers result codes budget n : ℕ) → n ≡ edgeRefusal memory registers result codes budget → n ≡ 0 → Allowed memory registers result budget
+pub allowed : (memory registers result codes budget n : ℕ) → n ≡ edgeRefusal memory registers result codes budget → n ≡ 0
+    → Allowed memory registers result budget
 unfolding edgeRefusal lowest
 allowed memory registers result codes budget n h z =
     let p1 = failed (sizeRefused memory) 0 _ (sym h ∙ z) in
     let p2 = failed (not (eqb registers 120)) 1 _ (p1 .1) in
     let p3 = failed (budgetRefused pipeLimit 0 budget) 2 _ (p2 .1) in
     let p4 = failed (not (eqb result 40)) 3 _ (p3 .1) in
-    record { size = p1 .0; whole = eqb-true registers 120 (not-false (eqb registers 120) (p2 .0)); budgeted = p3 .0; room = eqb-true result 40 (not-false (eqb result 40) (p4 .0)) }
+    record {
+      size = p1 .0;
+      whole = eqb-true registers 120 (not-false (eqb registers 120) (p2 .0));
+      budgeted = p3 .0;
+      room = eqb-true result 40 (not-false (eqb result 40) (p4 .0));
+    }
 
 -- THE EDGE
-module _ (memory registers result : List ℕ) (start codes budget n : ℕ) (h : n ≡ edgeRefusal (length memory) (length registers) (length result) codes budget) where
+module _ (memory registers result : List ℕ) (start codes budget n : ℕ)
+    (h : n ≡ edgeRefusal (length memory) (length registers) (length result) codes budget) where
   pub refuses : (n ≡ 0 → ⊥) → edge n memory registers result ≡ replayed memory registers result start codes budget
   unfolding replayed
   refuses z = cc (ne-eqb n 0 z)
 
-  pub replays : (words : List ℕ) (c : Codes) (fresh end : Pipeline) (number : ℕ) (memory′ registers′ result′ : List ℕ) → n ≡ 0 → words ≡ wordsIn 15 registers 0 → c ≡ codesFrom codes
-      → fresh ≡ pipeStart words c start → pipeAnswer number end memory′ [] [] ≡ pipeRunUnlogged asIn01 fresh memory budget → registers′ ≡ withWords (end .registers) registers 0
+  pub replays : (words : List ℕ) (c : Codes) (fresh end : Pipeline) (number : ℕ) (memory′ registers′ result′ : List ℕ) → n ≡ 0 → words ≡ wordsIn 15 registers 0
+      → c ≡ codesFrom codes
+      → fresh ≡ pipeStart words c start → pipeAnswer number end memory′ [] [] ≡ pipeRunUnlogged asIn01 fresh memory budget
+      → registers′ ≡ withWords (end .registers) registers 0
       → result′ ≡ withWords (resultWords end) result 0 → edge 0 memory′ registers′ result′ ≡ replayed memory registers result start codes budget
   unfolding replayed edgeDone edgeRun
   replays words c fresh end number memory′ registers′ result′ z e f g r p q =

@@ -9,7 +9,8 @@ use lib.ListN.{length}
 use Rattle.machine.specs.Types.{codesNumber}
 use Rattle.machine.specs.Charges.{noKinds}
 use Rattle.machine.specs.Pipeline.{pipeStart}
-use Rattle.machine.specs.Runs.{sizeRefused, budgetRefused, logRefused, recordRefused, countsRefused, refusedInD, refusedInE, refusedInM, refusedInW, refusedKept, lowest, pipeLimit, pipeRefusal, pipeDone, pipeBy, pipeRunUnlogged}
+use Rattle.machine.specs.Runs.{sizeRefused, budgetRefused, logRefused, recordRefused, countsRefused, refusedInD, refusedInE}
+use Rattle.machine.specs.Runs.{refusedInM, refusedInW, refusedKept, lowest, pipeLimit, pipeRefusal, pipeDone, pipeBy, pipeRunUnlogged}
 use Rattle.answers.specs.Refusals.{failed}
 use Rattle.edge.specs.Edge.{codesFrom, edgeRefusal, edgeRun}
 
@@ -29,7 +30,8 @@ codes-back (suc (suc (suc (suc (suc (suc (suc (suc n)))))))) h = absurd (omega a
 -- what the edge lets in, the run inside never refuses
 pub runs-inside : (memory registers result : List ℕ) (start codes budget : ℕ) → edgeRefusal (length memory) (length registers) (length result) codes budget ≡ 0
     → edgeRun memory registers start codes budget .number ≡ 0
-unfolding edgeRefusal edgeRun pipeRunUnlogged pipeBy pipeDone pipeRefusal lowest logRefused recordRefused countsRefused refusedInD refusedInE refusedInM refusedInW refusedKept pipeStart noKinds
+unfolding edgeRefusal edgeRun pipeRunUnlogged pipeBy pipeDone pipeRefusal lowest logRefused
+    recordRefused countsRefused refusedInD refusedInE refusedInM refusedInW refusedKept pipeStart noKinds
 runs-inside memory registers result start codes budget h =
     let p = failed (sizeRefused (length memory)) 0 _ h in
     let q = failed (not (eqb (length registers) 120)) 1 _ (p .1) in

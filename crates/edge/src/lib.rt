@@ -1,6 +1,8 @@
 // The host edge: one exported function on byte slices and numbers.
 use machine::Codes;
+use machine::PIPE_LIMIT;
 use machine::Pipeline;
+use machine::REGISTERS;
 use machine::Status;
 ghost use mathlib.Core.Path.{_≡_};
 ghost use Prim.Native.Nat.{_*_, _≤_};
@@ -8,14 +10,21 @@ ghost use lib.ListN.{length};
 ghost use Rattle.machine.specs.Types.{statusNumber};
 ghost use Rattle.edge.specs.Edge.{wordsIn, withWords, codesFrom, edgeRefusal, resultWords, edge, replayed};
 
+// The lent blocks: fifteen registers, and five result words; and the greatest number that codes have.
+const REGISTER_BYTES: usize = 120;
+
+const RESULT_BYTES: usize = 40;
+
+const MOST_CODES: u64 = 7;
+
 // The fifteen words of a register block.
-fn read_registers(block: &[u8]) -> [u64; 15]
+fn read_registers(block: &[u8]) -> [u64; REGISTERS]
     requires { ⌜ length (now block) ≡ 120 ⌝ }
     ensures { λ r. ⌜ r ≡ wordsIn 15 (now (block .entry)) 0 ⌝ }
 {
-    let mut words = [0u64; 15];
+    let mut words = [0u64; REGISTERS];
     let mut k: usize = 0;
-    while k < 15 {
+    while k < REGISTERS {
         words[k] = word::load(block, (8 * k) as u64);
         k += 1;
     }
@@ -87,16 +96,16 @@ fn refusal(memory: usize, registers: usize, result: usize, codes: u64, budget: u
     if answers::size_refused(memory) {
         return 1;
     }
-    if registers != 120 {
+    if registers != REGISTER_BYTES {
         return 2;
     }
-    if answers::budget_refused(262145, 0, budget) {
+    if answers::budget_refused(PIPE_LIMIT, 0, budget) {
         return 3;
     }
-    if result != 40 {
+    if result != RESULT_BYTES {
         return 4;
     }
-    if 7 < codes {
+    if MOST_CODES < codes {
         return 5;
     }
     0
@@ -112,7 +121,8 @@ pub extern "C" fn y86_replay(
     codes: u64,
     budget: u64,
 ) -> u64
-    ensures { λ r. ⌜ edge r (now (memory .exit)) (now (registers .exit)) (now (result .exit)) ≡ replayed (now (memory .entry)) (now (registers .entry)) (now (result .entry)) start codes budget ⌝ }
+    ensures { λ r. ⌜ edge r (now (memory .exit)) (now (registers .exit)) (now (result .exit))
+        ≡ replayed (now (memory .entry)) (now (registers .entry)) (now (result .entry)) start codes budget ⌝ }
 {
     let number = refusal(memory.len(), registers.len(), result.len(), codes, budget);
     if number != 0 {

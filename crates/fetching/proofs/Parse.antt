@@ -78,7 +78,8 @@ module _ (m : Memory) (a f : ℕ) (h : a < length m) (ef : f ≡ rowOf (codeAt m
         let short = leb-false z (length m - a) (not-true _ q) in
         cc (fetch-is m a, lt-leb (length m) a h, in-table, lt-ltb (length m) (a + z) (omega arith))
 
-    module _ (y b : ℕ) (t : Bool) (q : not (leb z (length m - a)) ≡ false) (ey : y ≡ byteNumber (rowOf (codeAt m a) .byte)) (eb : b ≡ cond (eqb y 0) 255 (getD m (a + 1) 0)) (et : t ≡ halvesFitBy y (b / 16) (b % 16)) where
+    module _ (y b : ℕ) (t : Bool) (q : not (leb z (length m - a)) ≡ false) (ey : y ≡ byteNumber (rowOf (codeAt m a) .byte))
+        (eb : b ≡ cond (eqb y 0) 255 (getD m (a + 1) 0)) (et : t ≡ halvesFitBy y (b / 16) (b % 16)) where
       high-is : b / 16 ≡ aokAt m a (codeAt m a) .ra
       unfolding aokAt
       high-is = cc (high (rowOf (codeAt m a) .byte) (getD m (a + 1) 0))
@@ -96,7 +97,9 @@ module _ (m : Memory) (a f : ℕ) (h : a < length m) (ef : f ≡ rowOf (codeAt m
       -- the checks that are passed
       through : fetch m a ≡ checked false false false (not t) (eqb (codeAt m a) 0) (aokAt m a (codeAt m a))
       unfolding aokAt
-      through = fetch-is m a ∙ rw (lt-leb (length m) a h, ← ef, in-table, long) (ap (λ (x : Bool). checked false false false x (eqb (codeAt m a) 0) (aokAt m a (codeAt m a))) fit)
+      through =
+          fetch-is m a ∙ rw (lt-leb (length m) a h, ← ef, in-table, long)
+          (ap (λ (x : Bool). checked false false false x (eqb (codeAt m a) 0) (aokAt m a (codeAt m a))) fit)
 
       pub misnamed : (r : Instruction) → not t ≡ true → r ≡ stopping a ins → r ≡ fetch m a
       unfolding checked aokAt
@@ -112,7 +115,8 @@ module _ (m : Memory) (a f : ℕ) (h : a < length m) (ef : f ≡ rowOf (codeAt m
       fetches c n k o ec en = cc (through, ne-eqb (codeAt m a) 0 o, high-is, low-is)
 
 -- THE CONSTANT, loaded from inside an instruction that is whole
-pub constant-there : (m : Memory) (at size c : ℕ) → at + size ≤ length m → 8 < size → c ≡ load m (at + (size - 8)) → c ≡ cond (ltb 8 size) (number 8 m (at + (size - 8))) 0
+pub constant-there : (m : Memory) (at size c : ℕ) → at + size ≤ length m → 8 < size → c ≡ load m (at + (size - 8))
+    → c ≡ cond (ltb 8 size) (number 8 m (at + (size - 8))) 0
 unfolding load inside
 constant-there m at size c fits long e = cc (lt-ltb 8 size long, lt-ltb (at + (size - 8) + 7) (length m) (omega arith))
 

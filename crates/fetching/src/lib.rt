@@ -2,6 +2,10 @@
 use answers::size_refused;
 use lookup::byte_of;
 use lookup::functions_of;
+use lookup::numbers::BOTH_NAMED;
+use lookup::numbers::NO_BYTE;
+use lookup::numbers::ONLY_A;
+use lookup::numbers::ONLY_B;
 use lookup::size_of;
 use machine::FetchAnswer;
 use machine::HALT;
@@ -40,22 +44,25 @@ fn halves_fit(byte: u8, a: u8, b: u8) -> bool
     ensures { λ r. ⌜ r ≡ halvesFitBy byte a b ⌝ }
 {
     match byte {
-        1 => (a < 15) & (b < 15),
-        2 => (a == 15) & (b < 15),
-        3 => (a < 15) & (b == 15),
+        BOTH_NAMED => (a < NONE) & (b < NONE),
+        ONLY_B => (a == NONE) & (b < NONE),
+        ONLY_A => (a < NONE) & (b == NONE),
         _ => true,
     }
 }
 
-// The register byte where there is one, else F:F, which names none.
+// F:F, which names no register.
+const NONE_NAMED: u8 = 255;
+
+// The register byte where there is one, else one that names none.
 fn register_byte(memory: &[u8], at: usize, byte: u8) -> u8
     requires { ⌜ ((byte ≡ 0 → ⊥) → at + 1 < length (now memory)) ⌝ }
     ensures { λ r. ⌜ r ≡ cond (eqb byte 0) 255 (getD (now (memory .entry)) (at + 1) 0) ⌝ }
 {
-    if byte == 0 {
-        return 255;
+    match byte {
+        NO_BYTE => NONE_NAMED,
+        _ => memory[at + 1],
     }
-    memory[at + 1]
 }
 
 // The constant, the last eight bytes of an instruction that is longer than that.

@@ -47,7 +47,8 @@ module _ (q : ℕ) where
   past-e bubbleM v h = cc (meets-none q)
   past-e (inM x) v h = cc
 
-  past-m : (y : StageW) (v : ℕ) → ltb q 15 ≡ true → cond (eqb (targetsW y .loaded) q) (wordW y) (cond (eqb (targetsW y .result) q) (resultW y) v) ≡ pastBoth y q v
+  past-m : (y : StageW) (v : ℕ) → ltb q 15 ≡ true
+      → cond (eqb (targetsW y .loaded) q) (wordW y) (cond (eqb (targetsW y .result) q) (resultW y) v) ≡ pastBoth y q v
   unfolding targetsW targetsOf resultW wordW pastBoth meets
   past-m bubbleW v h = cc (meets-none q)
   past-m (inW y) v h = cc

@@ -25,7 +25,8 @@ use Rattle.flow.specs.declared.Signals.{Signals}
 use Rattle.flow.specs.Moving.{aheadOf, signalsWith, signalsBy, signalsOf, fetchedIn, decodedIn, shiftedOf, flowAfter}
 use Rattle.flow.proofs.Sources.{targets-stay, written-is, waits-is, decoded-is}
 
-pub fetched-is : (m : StageM) (w : StageW) (f : ℕ) (bytes : Memory) (a : ℕ) (i : Instruction) → a ≡ mended asIn01 m (returnedTo w f) → i ≡ fetch bytes a → i ≡ fetchedIn m w f bytes
+pub fetched-is : (m : StageM) (w : StageW) (f : ℕ) (bytes : Memory) (a : ℕ) (i : Instruction) → a ≡ mended asIn01 m (returnedTo w f) → i ≡ fetch bytes a
+    → i ≡ fetchedIn m w f bytes
 unfolding fetchedIn
 fetched-is m w f bytes a i p q = cc
 
@@ -36,7 +37,8 @@ unfolding signalsBy signalsWith
 signals-are s t d e m x y a b c f p q u v = cc
 
 -- with D's sources and the targets of what stood in E, the code's signals are document 01's
-signals-same : (d : StageD) (e : StageE) (k : Codes) (m : StageM) (y : StageW) → signalsBy (sourcesD d) (targetsM (afterE e k)) d e m (afterE e k) y ≡ signalsOf d e m (afterE e k) y
+signals-same : (d : StageD) (e : StageE) (k : Codes) (m : StageM) (y : StageW)
+    → signalsBy (sourcesD d) (targetsM (afterE e k)) d e m (afterE e k) y ≡ signalsOf d e m (afterE e k) y
 unfolding signalsBy signalsOf
 signals-same d e k m y = cc (waits-is e k d)
 
@@ -49,7 +51,8 @@ targets-of true x = no-targets
 targets-of false x = refl
 
 -- the write to W's targets, and decode on what is carried of E and M
-module _ (d : StageD) (q : Sources) (t : Targets) (x : StageM) (y w : StageW) (a : Ahead) (r s : Registers) (given : (length r ≡ 15) × (q ≡ sourcesD d) × (t ≡ targetsM x) × (a .m ≡ targetsW y) × (a .w ≡ targetsW w))
+module _ (d : StageD) (q : Sources) (t : Targets) (x : StageM) (y w : StageW) (a : Ahead) (r s : Registers)
+    (given : (length r ≡ 15) × (q ≡ sourcesD d) × (t ≡ targetsM x) × (a .m ≡ targetsW y) × (a .w ≡ targetsW w))
     (es : s ≡ writtenBy (a .w) w r) where
   pub registers-are : s ≡ registersAfter w r
   registers-are = cc (written-is w r)
@@ -62,14 +65,16 @@ unfolding aheadOf
 carried-on a m w y bytes h e = (cc (targets-stay m bytes), cc)
 
 -- the values after the stages' work, and then the controls on the signals
-module _ (f : Flow) (h : f .targets ≡ aheadOf (f .m) (f .w)) (r : Registers) (bytes : Memory) (x : StageM) (y : StageW) (i : Instruction) (t : Targets) (q : Sources) (z : StageE) (g : Signals)
+module _ (f : Flow) (h : f .targets ≡ aheadOf (f .m) (f .w)) (r : Registers) (bytes : Memory) (x : StageM) (y : StageW) (i : Instruction) (t : Targets)
+    (q : Sources) (z : StageE) (g : Signals)
     (ex : x ≡ afterE (f .e) (f .codes)) (ey : y ≡ afterM (f .m) bytes) (ei : i ≡ fetchedIn (f .m) (f .w) (f .predicted) bytes)
     (et : t ≡ targetsM x) (eq : q ≡ sourcesD (f .d)) (ez : z ≡ decodedIn (f .d) x y (f .w) r) (eg : g ≡ signalsBy q t (f .d) (f .e) (f .m) x y) where
   signals : g ≡ signalsOf (f .d) (f .e) (f .m) (afterE (f .e) (f .codes)) y
   signals = cc (signals-same (f .d) (f .e) (f .codes) (f .m) y)
 
   pub flow-is : (p : ℕ) (d : StageD) (e : StageE) (m : StageM) (k : Codes) (u : Targets)
-      → p ≡ cond (g .waits || g .returns) (f .predicted) (predictedNext asIn01 i) → d ≡ cond (g .mispredicts) bubbleD (cond (g .waits) (f .d) (cond (g .returns) bubbleD (inD i)))
+      → p ≡ cond (g .waits || g .returns) (f .predicted) (predictedNext asIn01 i)
+      → d ≡ cond (g .mispredicts) bubbleD (cond (g .waits) (f .d) (cond (g .returns) bubbleD (inD i)))
       → e ≡ cond (g .mispredicts || g .waits) bubbleE z → m ≡ cond (g .fails) bubbleM x → k ≡ cond (g .fails) (f .codes) (codesAfter (f .e) (f .codes))
       → u ≡ cond (g .fails) noTargets t
       → record { predicted = p; d = d; e = e; m = m; w = y; codes = k; targets = record { m = u; w = f .targets .m } } ≡ flowAfter f r bytes

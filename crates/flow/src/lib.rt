@@ -2,6 +2,7 @@
 use fetching::instruction_at;
 use machine::Codes;
 use machine::Instruction;
+use machine::REGISTERS;
 use machine::StageD;
 use machine::StageE;
 use machine::StageM;
@@ -91,9 +92,10 @@ fn write_and_decode(
     accessed: StageW,
     w: StageW,
     ahead: Ahead,
-    registers: &mut [u64; 15],
+    registers: &mut [u64; REGISTERS],
 ) -> StageE
-    requires { ⌜ (length (now registers) ≡ 15) × (sources ≡ sourcesD d) × (targets ≡ targetsM executed) × (ahead .m ≡ targetsW accessed) × (ahead .w ≡ targetsW w) ⌝ }
+    requires { ⌜ (length (now registers) ≡ 15) × (sources ≡ sourcesD d) × (targets ≡ targetsM executed)
+        × (ahead .m ≡ targetsW accessed) × (ahead .w ≡ targetsW w) ⌝ }
     ensures { λ r. ⌜ (r ≡ decodedIn d executed accessed w (now (registers .entry))) × (now (registers .exit) ≡ registersAfter w (now (registers .entry))) ⌝ }
 {
     let in_m = ahead.m;
@@ -103,9 +105,11 @@ fn write_and_decode(
 }
 
 // A clock in which no bad status stands in W: memory is read before its write.
-pub fn advance(flow: Flow, registers: &mut [u64; 15], memory: &mut [u8]) -> Flow
+pub fn advance(flow: Flow, registers: &mut [u64; REGISTERS], memory: &mut [u8]) -> Flow
     requires { ⌜ (length (now registers) ≡ 15) × (flow .targets ≡ aheadOf (flow .m) (flow .w)) ⌝ }
-    ensures { λ r. ⌜ (r ≡ flowAfter flow (now (registers .entry)) (now (memory .entry))) × (now (registers .exit) ≡ registersAfter (flow .w) (now (registers .entry))) × (now (memory .exit) ≡ memoryAfter (flow .m) (now (memory .entry))) ⌝ }
+    ensures { λ r. ⌜ (r ≡ flowAfter flow (now (registers .entry)) (now (memory .entry)))
+        × (now (registers .exit) ≡ registersAfter (flow .w) (now (registers .entry)))
+        × (now (memory .exit) ≡ memoryAfter (flow .m) (now (memory .entry))) ⌝ }
 {
     let d = flow.d;
     let e = flow.e;

@@ -5,7 +5,8 @@ use lib.Dec.{eqb}
 use Rattle.machine.specs.declared.Instruction.{Instruction}
 use Rattle.machine.specs.declared.Decoded.{Decoded}
 use Rattle.machine.specs.declared.Executed.{Executed}
-use Rattle.machine.specs.Table.{Which, none, rA, rB, rsp, Computes, nothing, bOpA, justA, justC, bPlusC, bLess8, bPlus8, Accesses, noAccess, loadsAtE, loadsAtA, storesA, storesNext}
+use Rattle.machine.specs.Table.{Which, none, rA, rB, rsp, Computes, nothing, bOpA, justA, justC, bPlusC, bLess8, bPlus8}
+use Rattle.machine.specs.Table.{Accesses, noAccess, loadsAtE, loadsAtA, storesA, storesNext}
 use Rattle.machine.specs.Stages.{register, computed, loading, storing, addressed, stored}
 use Rattle.lookup.specs.Numbers.{whichNumber, computesNumber, accessesNumber}
 use Rattle.isa.specs.Decisions.{registerBy, computedBy}

@@ -1,7 +1,8 @@
 -- One law for each way out of a function, over variables for what its callees gave. Assumes nothing.
-use mathlib.Core.Path.{_≡_, refl, sym}
+use mathlib.Core.Path.{_≡_, refl, sym, ap}
 use mathlib.Core.Bool.{Bool, true, false, cond, not, _&&_, _||_, Bool·beq}
 use mathlib.Core.List.{List, [], _∷_}
+use mathlib.Core.Logic.{_⊎_, inl, inr}
 use Prim.Native.Nat.{ℕ, zero, suc, _≤_}
 use native.Mathlib.Omega.{arith}
 use lib.Bits.{bitAnd, bitXor}
@@ -22,7 +23,9 @@ use Rattle.machine.specs.Types.{isBad}
 use Rattle.machine.specs.Words.{sum, difference, signed, outside}
 use Rattle.machine.specs.Memory.{Memory, inside, load, store}
 use Rattle.machine.specs.Table.{rowOf, is}
-use Rattle.machine.specs.Stages.{sourceA, sourceB, resultTarget, loadedTarget, operated, overflows, operatedCodes, newCodes, condition, result, outcome, execute, loads, stores, accessAddress, storedWord, accessStatus, access, newMemory, turned, straight, nextAddress}
+use Rattle.machine.specs.Stages.{sourceA, sourceB, resultTarget, loadedTarget}
+use Rattle.machine.specs.Stages.{operated, overflows, operatedCodes, newCodes, condition, result, outcome, execute}
+use Rattle.machine.specs.Stages.{loads, stores, accessAddress, storedWord, accessStatus, access, newMemory, turned, straight, nextAddress}
 use Rattle.lookup.specs.Numbers.{whichNumber, computesNumber}
 use Rattle.isa.specs.Decisions.{accessKind, registerBy, computedBy}
 use Rattle.isa.proofs.Entries.{register-by, computed-by, loads-by, stores-by, accesses-by, addressed-by, stored-by}
@@ -35,7 +38,8 @@ pub a-bad : (i : Instruction) (b : Bool) → b ≡ isBad (i .status) → b ≡ t
 unfolding sourceA
 a-bad i b e h = cc
 
-pub a-good : (i : Instruction) (b : Bool) (k r : ℕ) → b ≡ isBad (i .status) → b ≡ false → k ≡ whichNumber (rowOf (i .code) .a) → r ≡ registerBy k i → r ≡ sourceA i
+pub a-good : (i : Instruction) (b : Bool) (k r : ℕ) → b ≡ isBad (i .status) → b ≡ false → k ≡ whichNumber (rowOf (i .code) .a)
+    → r ≡ registerBy k i → r ≡ sourceA i
 unfolding sourceA
 a-good i b k r e h q p = cc (register-by (rowOf (i .code) .a) i)
 
@@ -43,7 +47,8 @@ pub b-bad : (i : Instruction) (b : Bool) → b ≡ isBad (i .status) → b ≡ t
 unfolding sourceB
 b-bad i b e h = cc
 
-pub b-good : (i : Instruction) (b : Bool) (k r : ℕ) → b ≡ isBad (i .status) → b ≡ false → k ≡ whichNumber (rowOf (i .code) .b) → r ≡ registerBy k i → r ≡ sourceB i
+pub b-good : (i : Instruction) (b : Bool) (k r : ℕ) → b ≡ isBad (i .status) → b ≡ false → k ≡ whichNumber (rowOf (i .code) .b)
+    → r ≡ registerBy k i → r ≡ sourceB i
 unfolding sourceB
 b-good i b k r e h q p = cc (register-by (rowOf (i .code) .b) i)
 
@@ -51,7 +56,8 @@ pub lost : (i : Instruction) (h : Bool) → eqb (i .code) 2 && not h ≡ true �
 unfolding resultTarget is
 lost i h t = cc
 
-pub targeted : (i : Instruction) (h : Bool) (k r : ℕ) → eqb (i .code) 2 && not h ≡ false → k ≡ whichNumber (rowOf (i .code) .target) → r ≡ registerBy k i → r ≡ resultTarget i h
+pub targeted : (i : Instruction) (h : Bool) (k r : ℕ) → eqb (i .code) 2 && not h ≡ false → k ≡ whichNumber (rowOf (i .code) .target)
+    → r ≡ registerBy k i → r ≡ resultTarget i h
 unfolding resultTarget is
 targeted i h k r t q p = cc (register-by (rowOf (i .code) .target) i)
 
@@ -103,13 +109,14 @@ pub result-is : (x : Decoded) (k v : ℕ) → k ≡ computesNumber (rowOf (x .in
 unfolding result
 result-is x k v q p = cc (computed-by (rowOf (x .instruction .code) .computes) x)
 
-pub tested : (i : Instruction) (c : Codes) (b : Bool) → (eqb (i .code) 2 || eqb (i .code) 7) ≡ true → b ≡ condition (i .function) c → b ≡ outcome i c
+pub tested : (i : Instruction) (c : Codes) (b : Bool) → (i .code ≡ 2) ⊎ (i .code ≡ 7) → b ≡ condition (i .function) c → b ≡ outcome i c
 unfolding outcome is
-tested i c b t e = cc
+tested i c b (inl h) e = cc (eq-eqb (i .code) 2 h)
+tested i c b (inr h) e = cc (ap (λ (n : ℕ). eqb n 2) h, eq-eqb (i .code) 7 h)
 
-pub untested : (i : Instruction) (c : Codes) → (eqb (i .code) 2 || eqb (i .code) 7) ≡ false → true ≡ outcome i c
+pub untested : (i : Instruction) (c : Codes) → ((i .code ≡ 2) ⊎ (i .code ≡ 7) → ⊥) → true ≡ outcome i c
 unfolding outcome is
-untested i c t = cc
+untested i c h = cc (ne-eqb (i .code) 2 (λ e. h (inl e)), ne-eqb (i .code) 7 (λ e. h (inr e)))
 
 pub executed-is : (x : Decoded) (c : Codes) (v : ℕ) (h : Bool) → v ≡ result x → h ≡ outcome (x .instruction) c
     → record { instruction = x .instruction; a = x .a; result = v; holds = h } ≡ execute x c
@@ -120,9 +127,9 @@ pub back-to : (w : Accessed) → w .instruction .code ≡ 9 → w .word ≡ next
 unfolding nextAddress is
 back-to w h = cc (eq-eqb (w .instruction .code) 9 h)
 
-pub jumps-to : (w : Accessed) (v : ℕ) → (w .instruction .code ≡ 9 → ⊥) → w .instruction .code ≡ 7 → v ≡ turned (w .instruction) (w .holds) → v ≡ nextAddress w
+pub jumps-to : (w : Accessed) (v : ℕ) → w .instruction .code ≡ 7 → v ≡ turned (w .instruction) (w .holds) → v ≡ nextAddress w
 unfolding nextAddress is
-jumps-to w v h k e = cc (ne-eqb (w .instruction .code) 9 h, eq-eqb (w .instruction .code) 7 k)
+jumps-to w v k e = cc (ap (λ (n : ℕ). eqb n 9) k, eq-eqb (w .instruction .code) 7 k)
 
 pub goes-on : (w : Accessed) (v : ℕ) → (w .instruction .code ≡ 9 → ⊥) → (w .instruction .code ≡ 7 → ⊥) → v ≡ straight (w .instruction) → v ≡ nextAddress w
 unfolding nextAddress is
@@ -160,7 +167,8 @@ pub word-read : (x : Executed) (m : Memory) (k a v : ℕ) → k ≡ accessKind x
 unfolding loads
 word-read x m k a v q h e p = cc (loads-by (rowOf (x .instruction .code) .accesses))
 
-pub no-word : (x : Executed) (m : Memory) (k : ℕ) → k ≡ accessKind x → (eqb k 1 || eqb k 2) ≡ false → 0 ≡ cond (loads (x .instruction)) (load m (accessAddress x)) 0
+pub no-word : (x : Executed) (m : Memory) (k : ℕ) → k ≡ accessKind x → (eqb k 1 || eqb k 2) ≡ false
+    → 0 ≡ cond (loads (x .instruction)) (load m (accessAddress x)) 0
 unfolding loads
 no-word x m k q h = cc (loads-by (rowOf (x .instruction .code) .accesses))
 

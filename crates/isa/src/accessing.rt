@@ -1,5 +1,10 @@
 // The memory stage. The table is read once for an access, and its number handed on.
 use lookup::accesses_of;
+use lookup::numbers::LOADS_AT_A;
+use lookup::numbers::LOADS_AT_E;
+use lookup::numbers::NO_ACCESS;
+use lookup::numbers::STORES_A;
+use lookup::numbers::STORES_NEXT;
 use machine::Accessed;
 use machine::Executed;
 use machine::Status;
@@ -14,7 +19,10 @@ fn access_address(kind: u8, x: Executed) -> u64
     requires { ⌜ kind ≡ accessKind x ⌝ }
     ensures { λ r. ⌜ r ≡ accessAddress x ⌝ }
 {
-    if kind == 2 { x.a } else { x.result }
+    match kind {
+        LOADS_AT_A => x.a,
+        _ => x.result,
+    }
 }
 
 // call stores the next address.
@@ -24,7 +32,10 @@ fn stored_word(kind: u8, x: Executed) -> u64
 {
     let i = x.instruction;
     let kept = x.a;
-    if kind == 4 { i.next } else { kept }
+    match kind {
+        STORES_NEXT => i.next,
+        _ => kept,
+    }
 }
 
 // An access outside memory is ADR, whatever the status was.
@@ -33,7 +44,7 @@ fn access_status(kind: u8, x: Executed, memory: &[u8]) -> Status
     ensures { λ r. ⌜ r ≡ accessStatus x (now (memory .entry)) ⌝ }
 {
     let i = x.instruction;
-    if (kind != 0) & !word::inside(memory, access_address(kind, x)) {
+    if (kind != NO_ACCESS) & !word::inside(memory, access_address(kind, x)) {
         return Status::Adr;
     }
     i.status
@@ -44,7 +55,7 @@ fn loaded_word(kind: u8, x: Executed, memory: &[u8]) -> u64
     requires { ⌜ kind ≡ accessKind x ⌝ }
     ensures { λ r. ⌜ r ≡ cond (loads (x .instruction)) (loadOf (now (memory .entry)) (accessAddress x)) 0 ⌝ }
 {
-    let loads = (kind == 1) | (kind == 2);
+    let loads = (kind == LOADS_AT_E) | (kind == LOADS_AT_A);
     if loads {
         word::load(memory, access_address(kind, x))
     } else {
@@ -74,7 +85,7 @@ pub fn update(x: Executed, memory: &mut [u8])
 {
     let i = x.instruction;
     let kind = accesses_of(i.code);
-    let stores = (kind == 3) | (kind == 4);
+    let stores = (kind == STORES_A) | (kind == STORES_NEXT);
     if stores {
         word::store(memory, access_address(kind, x), stored_word(kind, x));
     }

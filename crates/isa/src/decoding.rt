@@ -2,8 +2,15 @@
 use lookup::a_from;
 use lookup::b_from;
 use lookup::loaded_of;
+use lookup::numbers::IN_RA;
+use lookup::numbers::IN_RB;
+use lookup::numbers::IN_RSP;
 use lookup::target_of;
+use machine::CMOV;
 use machine::Instruction;
+use machine::NONE;
+use machine::REGISTERS;
+use machine::RSP;
 use machine::Status;
 ghost use mathlib.Core.Path.{_≡_};
 ghost use Rattle.machine.specs.Types.{isBad};
@@ -27,10 +34,10 @@ fn register(which: u8, i: Instruction) -> u8
     ensures { λ r. ⌜ r ≡ registerBy which i ⌝ }
 {
     match which {
-        1 => i.ra,
-        2 => i.rb,
-        3 => 4,
-        _ => 15,
+        IN_RA => i.ra,
+        IN_RB => i.rb,
+        IN_RSP => RSP,
+        _ => NONE,
     }
 }
 
@@ -40,7 +47,7 @@ pub fn source_a(i: Instruction) -> u8
 {
     let status = i.status;
     if is_bad(status) {
-        15
+        NONE
     } else {
         register(a_from(i.code), i)
     }
@@ -52,7 +59,7 @@ pub fn source_b(i: Instruction) -> u8
 {
     let status = i.status;
     if is_bad(status) {
-        15
+        NONE
     } else {
         register(b_from(i.code), i)
     }
@@ -62,8 +69,8 @@ pub fn source_b(i: Instruction) -> u8
 pub fn result_target(i: Instruction, holds: bool) -> u8
     ensures { λ r. ⌜ r ≡ resultTarget i holds ⌝ }
 {
-    if (i.code == 2) & !holds {
-        15
+    if (i.code == CMOV) & !holds {
+        NONE
     } else {
         register(target_of(i.code), i)
     }
@@ -77,10 +84,10 @@ pub fn loaded_target(i: Instruction) -> u8
 }
 
 // A register's value: 15 reads 0.
-pub fn value(registers: &[u64; 15], q: u8) -> u64
+pub fn value(registers: &[u64; REGISTERS], q: u8) -> u64
     ensures { λ r. ⌜ r ≡ valueOf (now (registers .entry)) q ⌝ }
 {
-    if q < 15 {
+    if q < NONE {
         let k = q as usize;
         registers[k]
     } else {
@@ -89,10 +96,10 @@ pub fn value(registers: &[u64; 15], q: u8) -> u64
 }
 
 // One register changed: 15 writes nothing.
-pub fn write(registers: &mut [u64; 15], q: u8, v: u64)
+pub fn write(registers: &mut [u64; REGISTERS], q: u8, v: u64)
     ensures { λ _. ⌜ now (registers .exit) ≡ writtenOf (now (registers .entry)) q v ⌝ }
 {
-    if q < 15 {
+    if q < NONE {
         let k = q as usize;
         registers[k] = v;
     }

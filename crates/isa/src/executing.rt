@@ -1,23 +1,59 @@
 // Execute: arithmetic with codes, conditions, and where an instruction leads.
 use lookup::computes_of;
+use lookup::numbers::B_LESS_8;
+use lookup::numbers::B_OP_A;
+use lookup::numbers::B_PLUS_8;
+use lookup::numbers::B_PLUS_C;
+use lookup::numbers::JUST_A;
+use lookup::numbers::JUST_C;
 use machine::Accessed;
+use machine::CALL;
+use machine::CMOV;
 use machine::Codes;
 use machine::Decoded;
 use machine::Executed;
 use machine::Instruction;
+use machine::JUMP;
+use machine::OPERATION;
+use machine::RET;
 ghost use mathlib.Core.Path.{_≡_};
-ghost use Rattle.machine.specs.Stages.{operated as operatedOf, overflows as overflowsOf, operatedCodes, newCodes, condition as conditionOf, result as resultOf, outcome as outcomeOf, execute as executeOf, turned as turnedOf, straight as straightOf, nextAddress};
+ghost use Rattle.machine.specs.Stages.{operated as operatedOf, overflows as overflowsOf, operatedCodes, newCodes, condition as conditionOf};
+ghost use Rattle.machine.specs.Stages.{result as resultOf, outcome as outcomeOf, execute as executeOf};
+ghost use Rattle.machine.specs.Stages.{turned as turnedOf, straight as straightOf, nextAddress};
 ghost use Rattle.isa.specs.Decisions.{computedBy};
+
+// The functions of OPq, and the conditions of cmovXX and jXX.
+const ADD: u8 = 0;
+
+const SUBTRACT: u8 = 1;
+
+const AND: u8 = 2;
+
+const XOR: u8 = 3;
+
+const ALWAYS: u8 = 0;
+
+const IF_LE: u8 = 1;
+
+const IF_L: u8 = 2;
+
+const IF_E: u8 = 3;
+
+const IF_NE: u8 = 4;
+
+const IF_GE: u8 = 5;
+
+const IF_G: u8 = 6;
 
 // rB add, subtract, and, xor rA.
 fn operated(function: u8, a: u64, b: u64) -> u64
     ensures { λ r. ⌜ r ≡ operatedOf function a b ⌝ }
 {
     match function {
-        0 => word::sum(b, a),
-        1 => word::difference(b, a),
-        2 => b & a,
-        3 => b ^ a,
+        ADD => word::sum(b, a),
+        SUBTRACT => word::difference(b, a),
+        AND => b & a,
+        XOR => b ^ a,
         _ => 0,
     }
 }
@@ -27,8 +63,8 @@ fn overflows(function: u8, a: u64, b: u64) -> bool
     ensures { λ r. ⌜ r ≡ overflowsOf function a b ⌝ }
 {
     match function {
-        0 => word::sum_outside(b, a),
-        1 => word::difference_outside(b, a),
+        ADD => word::sum_outside(b, a),
+        SUBTRACT => word::difference_outside(b, a),
         _ => false,
     }
 }
@@ -49,10 +85,10 @@ pub fn new_codes(x: Decoded, codes: Codes) -> Codes
     ensures { λ r. ⌜ r ≡ newCodes x codes ⌝ }
 {
     let i = x.instruction;
-    if i.code == 6 {
-        codes_of(i.function, x.a, x.b)
-    } else {
-        codes
+    let code = i.code;
+    match code {
+        OPERATION => codes_of(i.function, x.a, x.b),
+        _ => codes,
     }
 }
 
@@ -63,13 +99,13 @@ fn condition(function: u8, c: Codes) -> bool
     let ge = c.sf == c.of;
     let e = c.zf;
     match function {
-        0 => true,
-        1 => !ge | e,
-        2 => !ge,
-        3 => e,
-        4 => !e,
-        5 => ge,
-        6 => ge & !e,
+        ALWAYS => true,
+        IF_LE => !ge | e,
+        IF_L => !ge,
+        IF_E => e,
+        IF_NE => !e,
+        IF_GE => ge,
+        IF_G => ge & !e,
         _ => false,
     }
 }
@@ -80,12 +116,12 @@ fn computed(kind: u8, x: Decoded) -> u64
 {
     let i = x.instruction;
     match kind {
-        1 => operated(i.function, x.a, x.b),
-        2 => x.a,
-        3 => i.constant,
-        4 => word::sum(x.b, i.constant),
-        5 => word::difference(x.b, 8),
-        6 => word::sum(x.b, 8),
+        B_OP_A => operated(i.function, x.a, x.b),
+        JUST_A => x.a,
+        JUST_C => i.constant,
+        B_PLUS_C => word::sum(x.b, i.constant),
+        B_LESS_8 => word::difference(x.b, 8),
+        B_PLUS_8 => word::sum(x.b, 8),
         _ => 0,
     }
 }
@@ -101,10 +137,10 @@ fn result(x: Decoded) -> u64
 fn outcome(i: Instruction, codes: Codes) -> bool
     ensures { λ r. ⌜ r ≡ outcomeOf i codes ⌝ }
 {
-    if (i.code == 2) | (i.code == 7) {
-        condition(i.function, codes)
-    } else {
-        true
+    let code = i.code;
+    match code {
+        CMOV | JUMP => condition(i.function, codes),
+        _ => true,
     }
 }
 
@@ -131,18 +167,21 @@ pub fn turned(i: Instruction, taken: bool) -> u64
 pub fn straight(i: Instruction) -> u64
     ensures { λ r. ⌜ r ≡ straightOf i ⌝ }
 {
-    if i.code == 8 { i.constant } else { i.next }
+    let code = i.code;
+    match code {
+        CALL => i.constant,
+        _ => i.next,
+    }
 }
 
 pub fn next_address(w: Accessed) -> u64
     ensures { λ r. ⌜ r ≡ nextAddress w ⌝ }
 {
     let i = w.instruction;
-    if i.code == 9 {
-        return w.word;
+    let code = i.code;
+    match code {
+        RET => w.word,
+        JUMP => turned(i, w.holds),
+        _ => straight(i),
     }
-    if i.code == 7 {
-        return turned(i, w.holds);
-    }
-    straight(i)
 }

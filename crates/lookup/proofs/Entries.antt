@@ -27,6 +27,9 @@ pub column : (f : Row → ℕ) (code r : ℕ) → r ≡ cond (ltb code 16) (getD
 unfolding rowOf table
 column f code r e = go (ltb code 16) refl
   where
+    by : (b : Bool) → ltb code 16 ≡ b → r ≡ cond b (getD (map f table) code 0) (f noRow)
+    by b h = e ∙ ap (λ t. cond t (getD (map f table) code 0) (f noRow)) h
+
     go : (b : Bool) → ltb code 16 ≡ b → r ≡ f (rowOf code)
-    go true h = e ∙ (ap (λ t. cond t (getD (map f table) code 0) (f noRow)) h ∙ (there (map f table) code 0 (f noRow) (ltb-true code 16 h) ∙ List·getD-map f table code noRow))
-    go false h = e ∙ (ap (λ t. cond t (getD (map f table) code 0) (f noRow)) h ∙ ap f (sym (List·getD-eq-default table noRow (ltb-false code 16 h))))
+    go true h = by true h ∙ (there (map f table) code 0 (f noRow) (ltb-true code 16 h) ∙ List·getD-map f table code noRow)
+    go false h = by false h ∙ ap f (sym (List·getD-eq-default table noRow (ltb-false code 16 h)))

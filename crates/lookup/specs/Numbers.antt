@@ -1,6 +1,7 @@
 -- The numbers by which the code's constant tables name the entries of a row.
 use Prim.Native.Nat.{ℕ}
-use Rattle.machine.specs.Table.{RegisterByte, noByte, bothNamed, onlyB, onlyA, Which, none, rA, rB, rsp, Computes, nothing, bOpA, justA, justC, bPlusC, bLess8, bPlus8, Accesses, noAccess, loadsAtE, loadsAtA, storesA, storesNext}
+use Rattle.machine.specs.Table.{RegisterByte, noByte, bothNamed, onlyB, onlyA, Which, none, rA, rB, rsp}
+use Rattle.machine.specs.Table.{Computes, nothing, bOpA, justA, justC, bPlusC, bLess8, bPlus8, Accesses, noAccess, loadsAtE, loadsAtA, storesA, storesNext}
 
 unfoldable pub byteNumber : RegisterByte → ℕ
 byteNumber noByte = 0

@@ -12,7 +12,8 @@ use Rattle.machine.specs.Types.{Instruction, Decoded, Executed, Accessed
 use Rattle.machine.specs.Words.{sum, difference, signed, outside}
 use Rattle.machine.specs.Memory.{Memory, Registers, inside, load, store, written}
 use Rattle.machine.specs.Table.{rowOf, is, cmov, operation, jump, call, ret, Which, none, rA, rB, rsp}
-use Rattle.machine.specs.Table.{Computes, nothing, bOpA, justA, justC, bPlusC, bLess8, bPlus8, Accesses, noAccess, loadsAtE, loadsAtA, storesA, storesNext}
+use Rattle.machine.specs.Table.{Computes, nothing, bOpA, justA, justC, bPlusC, bLess8, bPlus8}
+use Rattle.machine.specs.Table.{Accesses, noAccess, loadsAtE, loadsAtA, storesA, storesNext}
 
 -- the number of a register of the instruction; "15 means none", and rsp is 4
 unfoldable pub register : Which → Instruction → ℕ

@@ -12,7 +12,9 @@ use Rattle.machine.specs.declared.StageW.the-variants.{BubbleW as bubbleW, InW 
 use Rattle.machine.specs.Types.{isBad}
 use Rattle.machine.specs.Memory.{Memory, Registers}
 use Rattle.machine.specs.Prediction.{asIn01}
-use Rattle.machine.specs.Pipeline.{Piped, afterE, afterM, source, sourceM, sourceW, decodedD, badInW, memoryAfter, registersAfter, lastAfter, retiredAfter, kindsAfter, logged, advanced, stoppedIn, clockBy, clock, waits, mispredicts, returns, fails, fetchAddress, fetchedNow, nextF, nextD, nextE, nextM, nextCodes}
+use Rattle.machine.specs.Pipeline.{Piped, afterE, afterM, source, sourceM, sourceW, decodedD, badInW, memoryAfter, registersAfter}
+use Rattle.machine.specs.Pipeline.{lastAfter, retiredAfter, kindsAfter, logged, advanced, stoppedIn, clockBy, clock, waits}
+use Rattle.machine.specs.Pipeline.{mispredicts, returns, fails, fetchAddress, fetchedNow, nextF, nextD, nextE, nextM, nextCodes}
 use Rattle.laws.specs.Stops.{sound}
 use Rattle.retiring.specs.Retiring.{statusAfter, tallyAfter}
 use Rattle.retiring.specs.declared.Tally.{Tally}
@@ -60,6 +62,8 @@ module _ (f : Flow) (t : Tally) (x : Status) (r : Registers) (m : Memory) (es ys
   unfolding clock whole
   stops h b = rw h (stops-by (f .w) b)
 
-  pub goes : isBad x ≡ false → badInW (f .w) ≡ false → clock asIn01 now ≡ after t es ys (f .w) (flowAfter f r m) (registersAfter (f .w) r) (memoryAfter (f .m) m)
-  unfolding clock advanced whole tallyAfter flowAfter shiftedOf signalsOf signalsWith fetchedIn waits mispredicts returns fails fetchAddress fetchedNow nextF nextD nextE nextM nextCodes
+  pub goes : isBad x ≡ false → badInW (f .w) ≡ false
+      → clock asIn01 now ≡ after t es ys (f .w) (flowAfter f r m) (registersAfter (f .w) r) (memoryAfter (f .m) m)
+  unfolding clock advanced whole tallyAfter flowAfter shiftedOf signalsOf signalsWith fetchedIn
+      waits mispredicts returns fails fetchAddress fetchedNow nextF nextD nextE nextM nextCodes
   goes h b = rw h (goes-by (f .w) b ∙ rw (b, sound (statusAfter (f .w)) (bad-after (f .w) ∙ b), decoded-same f t x r m es ys (f .d)))

@@ -12,7 +12,8 @@ use Rattle.answers.specs.Logs.{laid-none}
 use Rattle.machine.specs.Memory.{Memory}
 use Rattle.machine.specs.Prediction.{asIn01}
 use Rattle.machine.specs.Pipeline.{pipedOf, clocks}
-use Rattle.machine.specs.Runs.{sizeRefused, budgetRefused, logRefused, refusedInD, refusedInE, refusedInM, refusedInW, refusedKept, countsRefused, recordRefused, lowest, pipeLimit, pipeRefusal, PipeAnswer, pipeAnswer, pipeDone, pipeBy, pipeRun, pipeRunUnlogged, pipeClock}
+use Rattle.machine.specs.Runs.{sizeRefused, budgetRefused, logRefused, refusedInD, refusedInE, refusedInM, refusedInW, refusedKept, countsRefused}
+use Rattle.machine.specs.Runs.{recordRefused, lowest, pipeLimit, pipeRefusal, PipeAnswer, pipeAnswer, pipeDone, pipeBy, pipeRun, pipeRunUnlogged, pipeClock}
 use Rattle.pipe.specs.Parts.{refusalBy, answerBy}
 use Rattle.answers.specs.Refusals.{failed}
 use Rattle.laws.specs.Tests.{neither}
@@ -28,7 +29,8 @@ module _ (short : Bool) (k : Pipeline) (m : Memory) (budget : ℕ) (a y : List �
   not-refused h p m′ a′ y′ d = cc (eq-eqb n 0 h)
 
 -- no refusal: the budget is within the limit, and the record's counts are within its cycles
-pub accepted : (short : Bool) (k : Pipeline) (size budget n : ℕ) → n ≡ refusalBy short k size budget → n ≡ 0 → (k .cycles + budget ≤ 262145) × (countsRefused k ≡ false)
+pub accepted : (short : Bool) (k : Pipeline) (size budget n : ℕ) → n ≡ refusalBy short k size budget → n ≡ 0
+    → (k .cycles + budget ≤ pipeLimit) × (countsRefused k ≡ false)
 unfolding refusalBy lowest budgetRefused recordRefused
 accepted short k size budget n e h =
     let size-fits = failed (sizeRefused size) 0 _ (sym e ∙ h) in
@@ -50,7 +52,8 @@ or-none true t = refl
 or-none false true = refl
 or-none false false = refl
 
-pub with-logs : (k : Pipeline) (m : Memory) (budget : ℕ) (a y : List ℕ) (t : PipeAnswer) → t ≡ answerBy (ltb (length a) budget || ltb (length y) budget) k m budget a y
+pub with-logs : (k : Pipeline) (m : Memory) (budget : ℕ) (a y : List ℕ) (t : PipeAnswer)
+    → t ≡ answerBy (ltb (length a) budget || ltb (length y) budget) k m budget a y
     → t ≡ pipeRun asIn01 k m budget a y
 unfolding pipeRun logRefused
 with-logs k m budget a y t e = e ∙ by-logs (length a ∷ length y ∷ []) _ k m budget a y (or-none (ltb (length a) budget) (ltb (length y) budget))

@@ -23,7 +23,7 @@ use Rattle.machine.specs.Memory.{Memory}
 use Rattle.machine.specs.Prediction.{asIn01}
 use Rattle.machine.specs.Charges.{Reason, free, waited, wronglyGuessed, returned, counted, reasonFrom}
 use Rattle.machine.specs.Pipeline.{Piped, pipedOf, badInW, memoryAfter, registersAfter, retiredAfter, kindsAfter, logged, clock, clocks}
-use Rattle.machine.specs.Runs.{laid, countsRefused, PipeAnswer, pipeAnswer, pipeDone}
+use Rattle.machine.specs.Runs.{laid, countsRefused, pipeLimit, PipeAnswer, pipeAnswer, pipeDone}
 use Rattle.retiring.specs.declared.Tally.{Tally}
 use Rattle.retiring.specs.Retiring.{Small, retires, statusAfter, tallyAfter}
 use Rattle.flow.specs.declared.Flow.{Flow}
@@ -76,7 +76,7 @@ tally-small n t w h =
       returned = three .returned;
     }
 
-small-first : (k : Pipeline) → countsRefused k ≡ false → k .cycles ≤ 262145 → Small 262146 (tallyOf k)
+small-first : (k : Pipeline) → countsRefused k ≡ false → k .cycles ≤ pipeLimit → Small 262146 (tallyOf k)
 unfolding countsRefused tallyOf
 small-first k h c =
     let all = neither (ltb (k .cycles) (k .retired)) _ h in
@@ -90,7 +90,7 @@ small-first k h c =
       returned = omega (arith, ltb-false (k .cycles) (k .kinds .returned) (last .1));
     }
 
-pub small-enough : (n : ℕ) (t : Tally) → n < 262145 → Small (262146 + n * 3) t → Small 2000000 t
+pub small-enough : (n : ℕ) (t : Tally) → n < pipeLimit → Small (262146 + n * 3) t → Small 2000000 t
 small-enough n t h s = record { retired = omega arith; cycles = omega arith; loaduse = omega arith; mispredict = omega arith; returned = omega arith }
 
 -- FROM CLOCK TO CLOCK
@@ -107,15 +107,28 @@ pub record Here (p₀ : Piped) (first : ℕ) (a₀ y₀ : List ℕ) (n : ℕ) (f
   pub ahead : f .targets ≡ aheadOf (f .m) (f .w)
   pub long : length r ≡ 15
 
-pub here-first : {f : Flow} {t : Tally} {x : Status} {r m a y : List ℕ} (k : Pipeline) → f ≡ flowOf k → length r ≡ 15 → t ≡ tallyOf k → countsRefused k ≡ false → k .cycles ≤ 262145
+pub here-first : {f : Flow} {t : Tally} {x : Status} {r m a y : List ℕ} (k : Pipeline) → f ≡ flowOf k → length r ≡ 15 → t ≡ tallyOf k → countsRefused k ≡ false
+    → k .cycles ≤ pipeLimit
     → Here (pipedOf (whole f t x r) m) (k .retired) a y 0 f t x r m a y
 unfolding clocks laid flowOf tallyOf
 here-first k i l e h c =
-    record { entries = []; times = []; state = refl; addresses = refl; cycles = refl; entered = rw e (omega arith); timed = rw e (omega arith); small = rw e (small-first k h c); ahead = rw i; long = l }
+    record {
+      entries = [];
+      times = [];
+      state = refl;
+      addresses = refl;
+      cycles = refl;
+      entered = rw e (omega arith);
+      timed = rw e (omega arith);
+      small = rw e (small-first k h c);
+      ahead = rw i;
+      long = l;
+    }
 
 -- one clock more of a machine that has not stopped; b, q and v are what the code found bad, retiring and bad in W
 module _ {p₀ : Piped} {first : ℕ} {a₀ y₀ : List ℕ} {n : ℕ} {f : Flow} {t t′ : Tally} {x x′ : Status} {r m a y a′ y′ : List ℕ} {b q v : Bool}
-    (h : Here p₀ first a₀ y₀ n f t x r m a y) (eb : b ≡ isBad x) (good : b ≡ false) (eq : q ≡ retires (f .w)) (et : t′ ≡ tallyAfter t (f .w)) (ex : x′ ≡ statusAfter (f .w))
+    (h : Here p₀ first a₀ y₀ n f t x r m a y) (eb : b ≡ isBad x) (good : b ≡ false) (eq : q ≡ retires (f .w)) (et : t′ ≡ tallyAfter t (f .w))
+    (ex : x′ ≡ statusAfter (f .w))
     (ea : a′ ≡ noted q (t .retired - first) (t′ .last) a) (ey : y′ ≡ noted q (t .retired - first) (t′ .cycles) y) (ev : v ≡ badInW (f .w)) where
   here-after : (f′ : Flow) (r′ m′ : List ℕ) → clock asIn01 (piped (whole f t x r) m (h .entries) (h .times)) ≡ after t (h .entries) (h .times) (f .w) f′ r′ m′
       → f′ .targets ≡ aheadOf (f′ .m) (f′ .w) → length r′ ≡ 15 → Here p₀ first a₀ y₀ (n + 1) f′ t′ x′ r′ m′ a′ y′
@@ -146,13 +159,15 @@ module _ {p₀ : Piped} {first : ℕ} {a₀ y₀ : List ℕ} {n : ℕ} {f : Flow
   here-stopped w = (here-after f r m (stops f t x r m (h .entries) (h .times) (cc) (cc)) (h .ahead) (h .long), cc (bad-after (f .w)))
 
 -- THE END
-pub same-start : {k : Pipeline} {f : Flow} {t : Tally} {m : Memory} → f ≡ flowOf k → t ≡ tallyOf k → pipedOf (whole f t (k .status) (k .registers)) m ≡ pipedOf k m
+pub same-start : {k : Pipeline} {f : Flow} {t : Tally} {m : Memory} → f ≡ flowOf k → t ≡ tallyOf k
+    → pipedOf (whole f t (k .status) (k .registers)) m ≡ pipedOf k m
 unfolding whole flowOf tallyOf
 same-start ef et = rw (ef, et)
 
 -- by each way out of the loop the variables primed are those that it left
-module _ {p₀ : Piped} {k : Pipeline} {m₀ : Memory} {first : ℕ} {a₀ y₀ : List ℕ} {n : ℕ} {f : Flow} {t t′ : Tally} {x x′ : Status} {r m a y a′ y′ : List ℕ} {p : Pipeline} (budget : ℕ)
-    (from : p₀ ≡ pipedOf k m₀) (h : Here p₀ first a₀ y₀ n f t x r m a y) (to : p ≡ whole f t′ x′ r) (ea : a′ ≡ a) (ey : y′ ≡ y) (et : t′ ≡ t) (ex : x′ ≡ x) where
+module _ {p₀ : Piped} {k : Pipeline} {m₀ : Memory} {first : ℕ} {a₀ y₀ : List ℕ} {n : ℕ} {f : Flow} {t t′ : Tally} {x x′ : Status}
+    {r m a y a′ y′ : List ℕ} {p : Pipeline} (budget : ℕ) (from : p₀ ≡ pipedOf k m₀) (h : Here p₀ first a₀ y₀ n f t x r m a y)
+    (to : p ≡ whole f t′ x′ r) (ea : a′ ≡ a) (ey : y′ ≡ y) (et : t′ ≡ t) (ex : x′ ≡ x) where
   pub at-budget : n ≡ budget → pipeAnswer 0 p m a′ y′ ≡ pipeDone (clocks asIn01 (pipedOf k m₀) budget) a₀ y₀
   unfolding pipeDone
   at-budget e = cc

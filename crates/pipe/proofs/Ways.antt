@@ -22,7 +22,8 @@ use Rattle.machine.specs.declared.StageW.the-variants.{BubbleW as bubbleW, InW 
 use Rattle.machine.specs.declared.Kept.{Kept}
 use Rattle.machine.specs.declared.Kept.the-variants.{NoneKept as noneKept, LastKept as lastKept}
 use Rattle.machine.specs.Table.{rowOf, is}
-use Rattle.machine.specs.Runs.{instructionRefused, refusedInD, refusedInE, refusedInM, refusedInW, refusedKept, countsRefused, recordRefused, sizeRefused, budgetRefused, pipeLimit, lowest}
+use Rattle.machine.specs.Runs.{instructionRefused, refusedInD, refusedInE, refusedInM, refusedInW, refusedKept}
+use Rattle.machine.specs.Runs.{countsRefused, recordRefused, sizeRefused, budgetRefused, pipeLimit, lowest}
 use Rattle.stage.specs.declared.forwarding.Targets.{Targets}
 use Rattle.stage.specs.Forwarding.{targetsM, targetsW}
 use Rattle.flow.specs.Moving.{aheadOf}
@@ -30,7 +31,8 @@ use Rattle.pipe.specs.Parts.{flowOf, noted, refusalBy}
 
 -- REFUSALS
 pub instruction-is : (i : Instruction) (n : ℕ) → n ≡ rowOf (i .code) .functions
-    → (ltb 15 (i .ra) || (ltb 15 (i .rb) || (eqb n 0 || ((eqb (i .code) 2 || (eqb (i .code) 7 || eqb (i .code) 6)) && leb n (i .function))))) ≡ instructionRefused i
+    → (ltb 15 (i .ra) || (ltb 15 (i .rb) || (eqb n 0 || ((eqb (i .code) 2 || (eqb (i .code) 7 || eqb (i .code) 6)) && leb n (i .function)))))
+    ≡ instructionRefused i
 unfolding instructionRefused is
 instruction-is i n e = cc
 
@@ -75,11 +77,13 @@ unfolding refusedKept
 some-kept k x b h p = cc
 
 pub counts-is : (p : Pipeline)
-    → (ltb (p .cycles) (p .retired) || (ltb (p .cycles) (p .kinds .loaduse) || (ltb (p .cycles) (p .kinds .mispredict) || ltb (p .cycles) (p .kinds .returned)))) ≡ countsRefused p
+    → (ltb (p .cycles) (p .retired) || (ltb (p .cycles) (p .kinds .loaduse)
+    || (ltb (p .cycles) (p .kinds .mispredict) || ltb (p .cycles) (p .kinds .returned)))) ≡ countsRefused p
 unfolding countsRefused
 counts-is p = refl
 
-pub record-is : (p : Pipeline) (d e m w k n : Bool) → d ≡ refusedInD (p .d) → e ≡ refusedInE (p .e) → m ≡ refusedInM (p .m) → w ≡ refusedInW (p .w) → k ≡ refusedKept (p .kept) → n ≡ countsRefused p
+pub record-is : (p : Pipeline) (d e m w k n : Bool) → d ≡ refusedInD (p .d) → e ≡ refusedInE (p .e) → m ≡ refusedInM (p .m) → w ≡ refusedInW (p .w)
+    → k ≡ refusedKept (p .kept) → n ≡ countsRefused p
     → (d || (e || (m || (w || (k || n))))) ≡ recordRefused p
 unfolding recordRefused
 record-is p d e m w k n f g h i j l = cc

@@ -15,7 +15,8 @@ use Rattle.machine.specs.declared.StageW.the-variants.{BubbleW as bubbleW, InW 
 use Rattle.machine.specs.Types.{isBad}
 use Rattle.machine.specs.Memory.{Memory}
 use Rattle.machine.specs.Prediction.{Settings}
-use Rattle.machine.specs.Pipeline.{Piped, pipedOf, source, sourceM, sourceW, waits, mispredicts, returns, fails, fetchAddress, fetchedNow, nextF, nextD, nextE, nextM, nextCodes, decodedD, retiredAfter, logged, advanced, stoppedIn, clockBy, clock, clocks}
+use Rattle.machine.specs.Pipeline.{Piped, pipedOf, source, sourceM, sourceW, waits, mispredicts, returns, fails, fetchAddress, fetchedNow, nextF}
+use Rattle.machine.specs.Pipeline.{nextD, nextE, nextM, nextCodes, decodedD, retiredAfter, logged, advanced, stoppedIn, clockBy, clock, clocks}
 use Rattle.machine.specs.Runs.{laid, pipeRefusal, PipeAnswer, pipeAnswer, pipeDone, pipeBy, pipeRun, pipeRunUnlogged}
 use Rattle.answers.specs.Logs.{laid-joined}
 use Rattle.answers.specs.Refusals.{ran}
@@ -153,7 +154,8 @@ module _ (g : Settings) where
 
     pub joined : first .number ≡ 0 → second .number ≡ 0 → both .number ≡ 0
         → both
-        ≡ pipeAnswer 0 (second .pipeline) (second .memory) (take retirements (first .addresses) ++ second .addresses) (take retirements (first .cycles) ++ second .cycles)
+        ≡ pipeAnswer 0 (second .pipeline) (second .memory) (take retirements (first .addresses) ++ second .addresses)
+        (take retirements (first .cycles) ++ second .cycles)
     unfolding pipeDone
     joined hf hs hb =
         let s = clocks g (pipedOf k m) a in

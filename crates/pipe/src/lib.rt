@@ -8,6 +8,7 @@ use machine::Codes;
 use machine::Kept;
 use machine::Kinds;
 use machine::Pipeline;
+use machine::REGISTERS;
 use machine::StageD;
 use machine::StageE;
 use machine::StageM;
@@ -26,7 +27,7 @@ pub struct Answer {
     pub pipeline: Pipeline,
 }
 
-pub fn start(registers: [u64; 15], codes: Codes, address: u64) -> Pipeline
+pub fn start(registers: [u64; REGISTERS], codes: Codes, address: u64) -> Pipeline
     ensures { λ r. ⌜ r ≡ pipeStart registers codes address ⌝ }
 {
     Pipeline {
@@ -59,7 +60,8 @@ fn perform(
     addresses: &mut [u64],
     cycles: &mut [u64],
 ) -> Answer
-    ensures { λ r. ⌜ pipeAnswer (r .number) (r .pipeline) (now (memory .exit)) (now (addresses .exit)) (now (cycles .exit)) ≡ answerBy short pipeline (now (memory .entry)) budget (now (addresses .entry)) (now (cycles .entry)) ⌝ }
+    ensures { λ r. ⌜ pipeAnswer (r .number) (r .pipeline) (now (memory .exit)) (now (addresses .exit)) (now (cycles .exit))
+        ≡ answerBy short pipeline (now (memory .entry)) budget (now (addresses .entry)) (now (cycles .entry)) ⌝ }
 {
     let number = refusal(pipeline, memory.len(), budget, short);
     if number != 0 {
@@ -80,7 +82,8 @@ pub fn run(
     addresses: &mut [u64],
     cycles: &mut [u64],
 ) -> Answer
-    ensures { λ r. ⌜ pipeAnswer (r .number) (r .pipeline) (now (memory .exit)) (now (addresses .exit)) (now (cycles .exit)) ≡ pipeRun asIn01 pipeline (now (memory .entry)) budget (now (addresses .entry)) (now (cycles .entry)) ⌝ }
+    ensures { λ r. ⌜ pipeAnswer (r .number) (r .pipeline) (now (memory .exit)) (now (addresses .exit)) (now (cycles .exit))
+        ≡ pipeRun asIn01 pipeline (now (memory .entry)) budget (now (addresses .entry)) (now (cycles .entry)) ⌝ }
 {
     let short = ((addresses.len() as u64) < budget) | ((cycles.len() as u64) < budget);
     perform(pipeline, memory, budget, short, addresses, cycles)

@@ -2,15 +2,21 @@
 use answers::budget_refused;
 use answers::size_refused;
 use lookup::functions_of;
+use machine::CMOV;
 use machine::Instruction;
+use machine::JUMP;
 use machine::Kept;
+use machine::NONE;
+use machine::OPERATION;
+use machine::PIPE_LIMIT;
 use machine::Pipeline;
 use machine::StageD;
 use machine::StageE;
 use machine::StageM;
 use machine::StageW;
 ghost use mathlib.Core.Path.{_≡_};
-ghost use Rattle.machine.specs.Runs.{instructionRefused, refusedInD, refusedInE, refusedInM, refusedInW, refusedKept, countsRefused, recordRefused};
+ghost use Rattle.machine.specs.Runs.{instructionRefused, refusedInD, refusedInE, refusedInM, refusedInW, refusedKept};
+ghost use Rattle.machine.specs.Runs.{countsRefused, recordRefused};
 ghost use Rattle.pipe.specs.Parts.{refusalBy};
 
 // A register over 15, a code without functions, a move, jump or OPq function that the table has not.
@@ -18,8 +24,8 @@ fn instruction_refused(i: Instruction) -> bool
     ensures { λ r. ⌜ r ≡ instructionRefused i ⌝ }
 {
     let functions = functions_of(i.code);
-    let tested = (i.code == 2) | ((i.code == 7) | (i.code == 6));
-    (15 < i.ra) | ((15 < i.rb) | ((functions == 0) | (tested & (functions <= i.function))))
+    let tested = (i.code == CMOV) | ((i.code == JUMP) | (i.code == OPERATION));
+    (NONE < i.ra) | ((NONE < i.rb) | ((functions == 0) | (tested & (functions <= i.function))))
 }
 
 fn refused_in_d(d: StageD) -> bool
@@ -110,7 +116,7 @@ pub fn refusal(pipeline: Pipeline, size: usize, budget: u64, short: bool) -> u64
     if size_refused(size) {
         return 1;
     }
-    if budget_refused(262145, pipeline.cycles, budget) {
+    if budget_refused(PIPE_LIMIT, pipeline.cycles, budget) {
         return 3;
     }
     if short {

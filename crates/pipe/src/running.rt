@@ -4,6 +4,7 @@ use flow::Flow;
 use flow::advance;
 use isa::decoding::is_bad;
 use machine::Pipeline;
+use machine::REGISTERS;
 use machine::Status;
 use retiring::Tally;
 use retiring::counted;
@@ -17,7 +18,7 @@ ghost use mathlib.Core.Bool.{false};
 ghost use Prim.Native.Nat.{_+_, _≤_};
 ghost use Rattle.machine.specs.Prediction.{asIn01};
 ghost use Rattle.machine.specs.Pipeline.{pipedOf, clocks};
-ghost use Rattle.machine.specs.Runs.{pipeAnswer, pipeDone, countsRefused};
+ghost use Rattle.machine.specs.Runs.{pipeLimit, pipeAnswer, pipeDone, countsRefused};
 ghost use Rattle.pipe.specs.Parts.{flowOf, tallyOf, whole, noted};
 
 // What a clock moves.
@@ -59,7 +60,7 @@ fn tally_of(p: Pipeline) -> Tally
     }
 }
 
-fn put_together(flow: Flow, tally: Tally, status: Status, registers: [u64; 15]) -> Pipeline
+fn put_together(flow: Flow, tally: Tally, status: Status, registers: [u64; REGISTERS]) -> Pipeline
     ensures { λ r. ⌜ r ≡ whole flow tally status registers ⌝ }
 {
     let d = flow.d;
@@ -103,8 +104,9 @@ pub fn looped(
     addresses: &mut [u64],
     cycles: &mut [u64],
 ) -> Pipeline
-    requires { ⌜ (pipeline .cycles + budget ≤ 262145) × (countsRefused pipeline ≡ false) ⌝ }
-    ensures { λ r. ⌜ pipeAnswer 0 r (now (memory .exit)) (now (addresses .exit)) (now (cycles .exit)) ≡ pipeDone (clocks asIn01 (pipedOf pipeline (now (memory .entry))) budget) (now (addresses .entry)) (now (cycles .entry)) ⌝ }
+    requires { ⌜ (pipeline .cycles + budget ≤ pipeLimit) × (countsRefused pipeline ≡ false) ⌝ }
+    ensures { λ r. ⌜ pipeAnswer 0 r (now (memory .exit)) (now (addresses .exit)) (now (cycles .exit))
+        ≡ pipeDone (clocks asIn01 (pipedOf pipeline (now (memory .entry))) budget) (now (addresses .entry)) (now (cycles .entry)) ⌝ }
 {
     let first = pipeline.retired;
     let mut registers = pipeline.registers;

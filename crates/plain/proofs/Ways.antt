@@ -21,7 +21,8 @@ use Rattle.machine.specs.Memory.{Memory, value, written}
 use Rattle.machine.specs.Fetch.{fetch}
 use Rattle.machine.specs.Stages.{sourceA, sourceB, decode, execute, access, newCodes, newMemory, newRegisters, nextAddress, resultTarget, loadedTarget}
 use Rattle.machine.specs.Plain.{Plain, plainOf, isStopped, fetched, decoded, executed, accessed, performed, stoppedBy, step, steps}
-use Rattle.machine.specs.Runs.{laid, lowest, sizeRefused, budgetRefused, logRefused, plainLimit, plainRefusal, plainAnswer, plainDone, plainBy, plainRun, plainStep}
+use Rattle.machine.specs.Runs.{laid, lowest, sizeRefused, budgetRefused, logRefused, plainLimit}
+use Rattle.machine.specs.Runs.{plainRefusal, plainAnswer, plainDone, plainBy, plainRun, plainStep}
 use Rattle.plain.specs.Records.{withRegister, afterPerformed, afterStop, RunsTo}
 use Rattle.answers.specs.Refusals.{failed}
 use Rattle.laws.specs.Tests.{neither, or-false}
@@ -29,7 +30,8 @@ use Rattle.answers.specs.Logs.{laid-more, laid-length}
 use Rattle.plain.specs.Steps.{bare, behind, step-bare, step-logs, step-counts, still-on}
 
 pub changed : (m : Machine) (q v : ℕ) → q < 15
-    → record { registers = set (m .registers) q v; codes = m .codes; address = m .address; status = m .status; last = m .last; count = m .count } ≡ withRegister m q v
+    → record { registers = set (m .registers) q v; codes = m .codes; address = m .address; status = m .status; last = m .last; count = m .count }
+    ≡ withRegister m q v
 unfolding withRegister written
 changed m q v h = cc (lt-ltb q 15 h)
 
@@ -42,20 +44,23 @@ pub decoded-is : (m : Machine) (i : Instruction) (p q a b : ℕ) → p ≡ sourc
 unfolding decode
 decoded-is m i p q a b e f g h = cc
 
-pub performed-is : (m one both : Machine) (x : Decoded) (w : Accessed) (t u a : ℕ) (c : Codes) → t ≡ resultTarget (w .instruction) (w .holds) → one ≡ withRegister m t (w .result)
-    → u ≡ loadedTarget (w .instruction) → both ≡ withRegister one u (w .word) → c ≡ newCodes x (m .codes) → a ≡ nextAddress w
+pub performed-is : (m one both : Machine) (x : Decoded) (w : Accessed) (t u a : ℕ) (c : Codes) → t ≡ resultTarget (w .instruction) (w .holds)
+    → one ≡ withRegister m t (w .result) → u ≡ loadedTarget (w .instruction) → both ≡ withRegister one u (w .word) → c ≡ newCodes x (m .codes)
+    → a ≡ nextAddress w
     → record { registers = both .registers; codes = c; address = a; status = aok; last = m .address; count = m .count + 1 } ≡ afterPerformed m x w
 unfolding afterPerformed withRegister newRegisters
 performed-is m one both x w t u a c e f g h k l = cc
 
 -- ONE INSTRUCTION
 module _ (m : Machine) (mem : Memory) (i : Instruction) (x : Decoded) (e : Executed) (w : Accessed) (b : Bool)
-    (runs : isBad (m .status) ≡ false) (hi : i ≡ fetch mem (m .address)) (hx : x ≡ decode i (value (m .registers))) (he : e ≡ execute x (m .codes)) (hw : w ≡ access e mem) (hb : b ≡ isBad (w .status)) where
+    (runs : isBad (m .status) ≡ false) (hi : i ≡ fetch mem (m .address)) (hx : x ≡ decode i (value (m .registers))) (he : e ≡ execute x (m .codes))
+    (hw : w ≡ access e mem) (hb : b ≡ isBad (w .status)) where
   pub stops : (r : Machine) → b ≡ true → r ≡ afterStop m (w .status) → (r ≡ step (plainOf m mem) .machine) × (mem ≡ step (plainOf m mem) .memory)
   unfolding step isStopped accessed executed decoded fetched stoppedBy afterStop
   stops r t q = (cc, cc)
 
-  pub performs : (r : Machine) (mem′ : Memory) → b ≡ false → mem′ ≡ newMemory e mem → r ≡ afterPerformed m x w → (r ≡ step (plainOf m mem) .machine) × (mem′ ≡ step (plainOf m mem) .memory)
+  pub performs : (r : Machine) (mem′ : Memory) → b ≡ false → mem′ ≡ newMemory e mem → r ≡ afterPerformed m x w
+      → (r ≡ step (plainOf m mem) .machine) × (mem′ ≡ step (plainOf m mem) .memory)
   unfolding step isStopped accessed executed decoded fetched performed afterPerformed
   performs r mem′ t p q = (cc, cc)
 
@@ -69,15 +74,22 @@ runs-on b x e t =
 pub record Goes (k : Machine) (m : Memory) (budget : ℕ) (l : List ℕ) (s : Machine) (m′ : Memory) (l′ : List ℕ) (n : ℕ) : Type 0 where
   pub so-far : RunsTo k m n l s m′ l′
   pub logged : length (steps (plainOf k m) n .log) ≡ n
-  pub counted : s .count + budget ≤ 65536 + n
+  pub counted : s .count + budget ≤ plainLimit + n
   pub within : n ≤ budget
   pub memory-long : length m′ ≡ length m
   pub log-long : length l′ ≡ length l
 
-pub goes-first : (k : Machine) (m : Memory) (budget : ℕ) (l : List ℕ) → k .count + budget ≤ 65536 → Goes k m budget l k m l 0
+pub goes-first : (k : Machine) (m : Memory) (budget : ℕ) (l : List ℕ) → k .count + budget ≤ plainLimit → Goes k m budget l k m l 0
 unfolding steps laid
 goes-first k m budget l h =
-    record { so-far = record { machine-is = refl; memory-is = refl; log-is = refl }; logged = refl; counted = omega arith; within = omega arith; memory-long = refl; log-long = refl }
+    record {
+      so-far = record { machine-is = refl; memory-is = refl; log-is = refl };
+      logged = refl;
+      counted = omega arith;
+      within = omega arith;
+      memory-long = refl;
+      log-long = refl;
+    }
 
 module _ (k : Machine) (m : Memory) (budget : ℕ) (l : List ℕ) (s : Machine) (m₁ : Memory) (l₁ : List ℕ) (n : ℕ) (g : Goes k m budget l s m₁ l₁ n) where
   now : Plain
@@ -98,7 +110,8 @@ module _ (k : Machine) (m : Memory) (budget : ℕ) (l : List ℕ) (s : Machine) 
   unfolding now
   next-log h = step-logs now (runs-now h) ∙ ap (λ (x : Machine). now .log ++ x .address ∷ []) (sym (g .so-far .machine-is))
 
-  pub goes-on : (b : Bool) (s₂ : Machine) (m₂ : Memory) (l₂ : List ℕ) → n < budget → b ≡ isBad (s .status) → not b ≡ true → length m₂ ≡ length m₁ → l₂ ≡ set l₁ n (s .address)
+  pub goes-on : (b : Bool) (s₂ : Machine) (m₂ : Memory) (l₂ : List ℕ) → n < budget → b ≡ isBad (s .status) → not b ≡ true → length m₂ ≡ length m₁
+      → l₂ ≡ set l₁ n (s .address)
       → (s₂ ≡ step (plainOf s m₁) .machine) × (m₂ ≡ step (plainOf s m₁) .memory) → Goes k m budget l s₂ m₂ l₂ (n + 1)
   unfolding now steps
   goes-on b s₂ m₂ l₂ lt hb t long hl hs =
@@ -106,7 +119,8 @@ module _ (k : Machine) (m : Memory) (budget : ℕ) (l : List ℕ) (s : Machine) 
       let same : steps (plainOf k m) (n + 1) ≡ step now = ap (steps (plainOf k m)) (add-one n) in
       let log-is : l₂ ≡ laid (step now .log) l =
       hl ∙ (ap (λ (x : List ℕ). set x n (s .address)) (g .so-far .log-is)
-      ∙ (ap (λ (x : ℕ). set (laid (now .log) l) x (s .address)) (sym (g .logged)) ∙ (sym (laid-more (now .log) l (s .address)) ∙ ap (λ (x : List ℕ). laid x l) (sym (next-log run))))) in
+      ∙ (ap (λ (x : ℕ). set (laid (now .log) l) x (s .address)) (sym (g .logged)) ∙
+      (sym (laid-more (now .log) l (s .address)) ∙ ap (λ (x : List ℕ). laid x l) (sym (next-log run))))) in
       record {
         so-far =
             record {
@@ -114,7 +128,9 @@ module _ (k : Machine) (m : Memory) (budget : ℕ) (l : List ℕ) (s : Machine) 
               memory-is = hs .1 ∙ sym (ap (λ (x : Plain). x .memory) (same ∙ next-step));
               log-is = log-is ∙ sym (ap (λ (x : Plain). laid (x .log) l) same);
             };
-        logged = ap (λ (x : Plain). length (x .log)) same ∙ (ap length (next-log run) ∙ (length-append (now .log) (s .address ∷ []) ∙ ap (λ (x : ℕ). x + 1) (g .logged)));
+        logged =
+            ap (λ (x : Plain). length (x .log)) same ∙
+            (ap length (next-log run) ∙ (length-append (now .log) (s .address ∷ []) ∙ ap (λ (x : ℕ). x + 1) (g .logged)));
         counted = omega (arith, g .counted, step-counts (plainOf s m₁), ap (λ (x : Machine). x .count) (hs .0));
         within = omega arith;
         memory-long = long ∙ g .memory-long;
@@ -173,7 +189,8 @@ unfolding laid
 laid-none [] = refl
 laid-none (e ∷ es) = refl
 
-pub within-limit : (size count budget n : ℕ) (short : Bool) → n ≡ lowest ((1, sizeRefused size) ∷ (3, budgetRefused plainLimit count budget) ∷ (4, short) ∷ []) → n ≡ 0 → count + budget ≤ 65536
+pub within-limit : (size count budget n : ℕ) (short : Bool) → n ≡ lowest ((1, sizeRefused size) ∷ (3, budgetRefused plainLimit count budget) ∷ (4, short) ∷ [])
+    → n ≡ 0 → count + budget ≤ plainLimit
 unfolding lowest budgetRefused
 within-limit size count budget n short h z =
     let p = failed (sizeRefused size) 0 _ (sym h ∙ z) in
@@ -190,7 +207,8 @@ module _ (logs : List ℕ) (k : Machine) (m : Memory) (budget : ℕ) (log : List
   ends z r m′ l′ e = cc (z, h, e .machine-is, e .memory-is, e .log-is)
 
 pub run-refuses : (k : Machine) (m : Memory) (budget : ℕ) (log : List ℕ) (n : ℕ)
-    → n ≡ lowest ((1, sizeRefused (length m)) ∷ (3, budgetRefused plainLimit (k .count) budget) ∷ (4, ltb (length log) budget) ∷ []) → (n ≡ 0 → ⊥) → plainAnswer n k m log ≡ plainRun k m budget log
+    → n ≡ lowest ((1, sizeRefused (length m)) ∷ (3, budgetRefused plainLimit (k .count) budget) ∷ (4, ltb (length log) budget) ∷ []) → (n ≡ 0 → ⊥)
+    → plainAnswer n k m log ≡ plainRun k m budget log
 unfolding plainRun
 run-refuses k m budget log n h z = refuses (length log ∷ []) k m budget log n (one-log (length m) (k .count) budget (length log) n h) z
 
@@ -201,7 +219,8 @@ unfolding plainRun
 run-ends k m budget log n h z = ends (length log ∷ []) k m budget log n (one-log (length m) (k .count) budget (length log) n h) z
 
 pub step-refuses : (k : Machine) (m : Memory) (n : ℕ)
-    → n ≡ lowest ((1, sizeRefused (length m)) ∷ (3, budgetRefused plainLimit (k .count) 1) ∷ (4, false) ∷ []) → (n ≡ 0 → ⊥) → plainAnswer n k m [] ≡ plainStep k m
+    → n ≡ lowest ((1, sizeRefused (length m)) ∷ (3, budgetRefused plainLimit (k .count) 1) ∷ (4, false) ∷ []) → (n ≡ 0 → ⊥)
+    → plainAnswer n k m [] ≡ plainStep k m
 unfolding plainStep
 step-refuses k m n h z = refuses [] k m 1 [] n (no-log (length m) (k .count) 1 n h) z
 
@@ -210,4 +229,5 @@ pub step-ends : (k : Machine) (m : Memory) (n : ℕ)
     → (own : List ℕ) (r : Machine) (m′ : Memory) (own′ : List ℕ) → RunsTo k m 1 own r m′ own′ → plainAnswer 0 r m′ [] ≡ plainStep k m
 unfolding plainStep
 step-ends k m n h z own r m′ own′ e =
-    ends [] k m 1 [] n (no-log (length m) (k .count) 1 n h) z r m′ [] (record { machine-is = e .machine-is; memory-is = e .memory-is; log-is = sym (laid-none _) })
+    ends [] k m 1 [] n (no-log (length m) (k .count) 1 n h) z r m′ []
+    (record { machine-is = e .machine-is; memory-is = e .memory-is; log-is = sym (laid-none _) })

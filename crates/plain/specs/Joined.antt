@@ -53,7 +53,8 @@ module _ (k : Machine) (m : Memory) (a b : ℕ) (log : List ℕ) where
 
   pub joined : plainRun k m a log .number ≡ 0 → goingOn k m a b log .number ≡ 0 → plainRun k m (b + a) log .number ≡ 0
       → plainRun k m (b + a) log
-      ≡ plainAnswer 0 (goingOn k m a b log .machine) (goingOn k m a b log .memory) (take (performedIn k m a) (plainRun k m a log .log) ++ goingOn k m a b log .log)
+      ≡ plainAnswer 0 (goingOn k m a b log .machine) (goingOn k m a b log .memory)
+      (take (performedIn k m a) (plainRun k m a log .log) ++ goingOn k m a b log .log)
   unfolding first second plainDone
   joined h₁ h₂ h₃ =
       done-run k m (b + a) log h₃
@@ -61,7 +62,8 @@ module _ (k : Machine) (m : Memory) (a b : ℕ) (log : List ℕ) where
       ∙ (ap (λ (l : List ℕ). plainAnswer 0 (second .machine) (second .memory) l) (laid-joined (first .log) (second .log) log)
       ∙ sym
       (ap (λ (o : PlainAnswer). plainAnswer 0 (o .machine) (o .memory) (take (performedIn k m a) (plainRun k m a log .log) ++ o .log)) (second-is h₁ h₂)
-      ∙ ap (λ (o : PlainAnswer). plainAnswer 0 (second .machine) (second .memory) (take (performedIn k m a) (o .log) ++ laid (second .log) (drop (length (first .log)) (laid (first .log) log)))) (done-run k m a log h₁))))
+      ∙ ap (λ (o : PlainAnswer). plainAnswer 0 (second .machine) (second .memory)
+      (take (performedIn k m a) (o .log) ++ laid (second .log) (drop (length (first .log)) (laid (first .log) log)))) (done-run k m a log h₁))))
 
 -- WITHOUT A LOG
 -- record and memory after a step

@@ -13,11 +13,19 @@ use Rattle.machine.specs.Plain.{plainOf, steps}
 use Rattle.machine.specs.Runs.{laid}
 
 unfoldable pub withRegister : Machine → ℕ → ℕ → Machine
-withRegister m q v = record { registers = written (m .registers) q v; codes = m .codes; address = m .address; status = m .status; last = m .last; count = m .count }
+withRegister m q v =
+    record { registers = written (m .registers) q v; codes = m .codes; address = m .address; status = m .status; last = m .last; count = m .count }
 
 unfoldable pub afterPerformed : Machine → Decoded → Accessed → Machine
 afterPerformed m x w =
-    record { registers = newRegisters w (m .registers); codes = newCodes x (m .codes); address = nextAddress w; status = aok; last = m .address; count = m .count + 1 }
+    record {
+      registers = newRegisters w (m .registers);
+      codes = newCodes x (m .codes);
+      address = nextAddress w;
+      status = aok;
+      last = m .address;
+      count = m .count + 1;
+    }
 
 unfoldable pub afterStop : Machine → Status → Machine
 afterStop m s = record { registers = m .registers; codes = m .codes; address = m .address; status = s; last = m .address; count = m .count + 1 }

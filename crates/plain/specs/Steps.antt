@@ -23,8 +23,12 @@ step-behind l s = go (isBad (s .machine .status)) (isBad (accessed s .status))
         → cond b (behind l s) (cond c (stoppedBy (behind l s) (accessed s .status)) (performed (behind l s)))
         ≡ behind l (cond b s (cond c (stoppedBy s (accessed s .status)) (performed s)))
     go true c = refl
-    go false true = ap (λ (x : List ℕ). record { machine = stoppedBy s (accessed s .status) .machine; memory = s .memory; log = x }) (append-assoc l (s .log) (s .machine .address ∷ []))
-    go false false = ap (λ (x : List ℕ). record { machine = performed s .machine; memory = performed s .memory; log = x }) (append-assoc l (s .log) (s .machine .address ∷ []))
+    go false true =
+        ap (λ (x : List ℕ). record { machine = stoppedBy s (accessed s .status) .machine; memory = s .memory; log = x })
+        (append-assoc l (s .log) (s .machine .address ∷ []))
+    go false false =
+        ap (λ (x : List ℕ). record { machine = performed s .machine; memory = performed s .memory; log = x })
+        (append-assoc l (s .log) (s .machine .address ∷ []))
 
 pub steps-behind : (l : List ℕ) (s : Plain) (n : ℕ) → steps (behind l s) n ≡ behind l (steps s n)
 unfolding steps

@@ -16,6 +16,9 @@ use machine::Codes;
 use machine::Decoded;
 use machine::Instruction;
 use machine::Machine;
+use machine::NONE;
+use machine::PLAIN_LIMIT;
+use machine::REGISTERS;
 use machine::Status;
 ghost use mathlib.Core.Path.{_≡_};
 ghost use mathlib.Core.Bool.{false};
@@ -35,7 +38,7 @@ pub struct Answer {
 }
 
 // A fresh start.
-pub fn start(registers: [u64; 15], codes: Codes, address: u64) -> Machine
+pub fn start(registers: [u64; REGISTERS], codes: Codes, address: u64) -> Machine
     ensures { λ r. ⌜ r ≡ plainStart registers codes address ⌝ }
 {
     Machine {
@@ -60,7 +63,7 @@ fn with_register(m: Machine, q: u8, v: u64) -> Machine
     ensures { λ r. ⌜ r ≡ withRegister m q v ⌝ }
 {
     let mut next = m;
-    if q < 15 {
+    if q < NONE {
         let k = q as usize;
         next.registers[k] = v;
     }
@@ -80,7 +83,7 @@ fn decoded(m: Machine, i: Instruction) -> Decoded
 
 // The record after an instruction with AOK: the result is written first, and then the loaded word.
 fn after_performed(m: Machine, x: Decoded, w: Accessed) -> Machine
-    requires { ⌜ m .count < 65536 ⌝ }
+    requires { ⌜ m .count < plainLimit ⌝ }
     ensures { λ r. ⌜ r ≡ afterPerformed m x w ⌝ }
 {
     let i = w.instruction;
@@ -102,7 +105,7 @@ fn after_performed(m: Machine, x: Decoded, w: Accessed) -> Machine
 
 // The record after the stopping instruction.
 fn after_stop(m: Machine, status: Status) -> Machine
-    requires { ⌜ m .count < 65536 ⌝ }
+    requires { ⌜ m .count < plainLimit ⌝ }
     ensures { λ r. ⌜ r ≡ afterStop m status ⌝ }
 {
     let registers = m.registers;
@@ -119,8 +122,9 @@ fn after_stop(m: Machine, status: Status) -> Machine
 
 // One instruction of a machine that runs.
 fn advance(m: Machine, memory: &mut [u8]) -> Machine
-    requires { ⌜ (m .count < 65536) × (isBad (m .status) ≡ false) ⌝ }
-    ensures { λ r. ⌜ (r ≡ stepOf (plainOf m (now (memory .entry))) .machine) × (now (memory .exit) ≡ stepOf (plainOf m (now (memory .entry))) .memory) ⌝ }
+    requires { ⌜ (m .count < plainLimit) × (isBad (m .status) ≡ false) ⌝ }
+    ensures { λ r. ⌜ (r ≡ stepOf (plainOf m (now (memory .entry))) .machine)
+        × (now (memory .exit) ≡ stepOf (plainOf m (now (memory .entry))) .memory) ⌝ }
 {
     let i = instruction_at(memory, m.address);
     let x = decoded(m, i);
@@ -137,7 +141,7 @@ fn advance(m: Machine, memory: &mut [u8]) -> Machine
 
 // The loop of both entries.
 fn run_on(m: Machine, memory: &mut [u8], budget: u64, log: &mut [u64]) -> Machine
-    requires { ⌜ m .count + budget ≤ 65536 ⌝ }
+    requires { ⌜ m .count + budget ≤ plainLimit ⌝ }
     ensures { λ r. ⌜ RunsTo m (now (memory .entry)) budget (now (log .entry)) r (now (memory .exit)) (now (log .exit)) ⌝ }
 {
     let mut s = m;
@@ -157,7 +161,7 @@ fn refusal(size: usize, count: u64, budget: u64, short: bool) -> u64
     if answers::size_refused(size) {
         return 1;
     }
-    if answers::budget_refused(65536, count, budget) {
+    if answers::budget_refused(PLAIN_LIMIT, count, budget) {
         return 3;
     }
     if short {
@@ -168,7 +172,8 @@ fn refusal(size: usize, count: u64, budget: u64, short: bool) -> u64
 
 // A run with an instruction budget and a lent log of addresses.
 pub fn run(machine: Machine, memory: &mut [u8], budget: u64, log: &mut [u64]) -> Answer
-    ensures { λ r. ⌜ plainAnswer (r .number) (r .machine) (now (memory .exit)) (now (log .exit)) ≡ plainRun machine (now (memory .entry)) budget (now (log .entry)) ⌝ }
+    ensures { λ r. ⌜ plainAnswer (r .number) (r .machine) (now (memory .exit)) (now (log .exit))
+        ≡ plainRun machine (now (memory .entry)) budget (now (log .entry)) ⌝ }
 {
     let number = refusal(
         memory.len(),

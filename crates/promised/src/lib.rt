@@ -4,6 +4,7 @@ use machine::Codes;
 use machine::FetchAnswer;
 use machine::Machine;
 use machine::Pipeline;
+use machine::REGISTERS;
 ghost use mathlib.Core.List.{[]};
 ghost use Rattle.machine.specs.Runs.{plainAnswer, pipeAnswer};
 ghost use Rattle.edge.specs.Edge.{edge};
@@ -18,7 +19,7 @@ fn fetch(memory: &[u8], address: u64) -> FetchAnswer
     fetching::fetch(memory, address)
 }
 
-fn plain_start(registers: [u64; 15], codes: Codes, address: u64) -> Machine
+fn plain_start(registers: [u64; REGISTERS], codes: Codes, address: u64) -> Machine
     ensures { λ r. ⌜ Fits plain-start (registers, codes, address) r ⌝ }
 {
     plain::start(registers, codes, address)
@@ -37,7 +38,7 @@ fn plain_run(machine: Machine, memory: &mut [u8], budget: u64, log: &mut [u64]) 
     plain::run(machine, memory, budget, log)
 }
 
-fn pipe_start(registers: [u64; 15], codes: Codes, address: u64) -> Pipeline
+fn pipe_start(registers: [u64; REGISTERS], codes: Codes, address: u64) -> Pipeline
     ensures { λ r. ⌜ Fits pipe-start (registers, codes, address) r ⌝ }
 {
     pipe::start(registers, codes, address)
@@ -83,7 +84,7 @@ fn host_edge(
 }
 
 fn both(
-    registers: [u64; 15],
+    registers: [u64; REGISTERS],
     codes: Codes,
     address: u64,
     memory: &mut [u8],

@@ -12,7 +12,8 @@ use Rattle.machine.specs.Memory.{Memory, Registers, inside, load, store, value,
 use Rattle.machine.specs.Table.{table, rowOf, is}
 use Rattle.machine.specs.Fetch.{half, stopping}
 use Rattle.machine.specs.Stages
-use Rattle.machine.specs.Stages.{decode, execute, access, newCodes, newMemory, newRegisters, nextAddress, operated, operatedCodes, condition, loads, stores, accessAddress, accessStatus}
+use Rattle.machine.specs.Stages.{decode, execute, access, newCodes, newMemory, newRegisters, nextAddress}
+use Rattle.machine.specs.Stages.{operated, operatedCodes, condition, loads, stores, accessAddress, accessStatus}
 use Rattle.machine.specs.Plain.{Plain, isStopped, fetched, decoded, executed, accessed, performed, stoppedBy, step}
 use Rattle.published.specs.Names.{Status, aok, hlt, adr, Codes, Instruction}
 use Rattle.published.specs.Fetching.{M₁, M₈, aokAt, fetch-aok, aok-code, fetch-bad, fetch-halt}
@@ -51,7 +52,12 @@ At s code = (isStopped s ≡ false) × (fetched s .status ≡ aok) × (icode s �
 
 -- an instruction is performed: these registers, codes, memory, program address and status, and its own address is last, counted and logged
 abbrev pub after : Plain → Registers → Codes → Memory → ℕ → Status → Plain
-after s r c m a t = record { machine = record { registers = r; codes = c; address = a; status = t; last = PC s; count = s .machine .count + 1 }; memory = m; log = s .log ++ PC s ∷ [] }
+after s r c m a t =
+    record {
+      machine = record { registers = r; codes = c; address = a; status = t; last = PC s; count = s .machine .count + 1 };
+      memory = m;
+      log = s .log ++ PC s ∷ [];
+    }
 
 -- of the stopping one only the status, the last address, the count and the log tell
 abbrev pub stopped : Plain → Status → Plain
@@ -86,7 +92,10 @@ step-of s i r e a = rw (r, e) (decided (loads i || stores i) (inside (s .memory)
 
 -- the same of the instruction at the program address
 unfoldable columnOf : Plain → ℕ → Plain
-unfolding rowOf table is half value written Stages.register Stages.sourceA Stages.sourceB decode Stages.computed Stages.result Stages.outcome execute Stages.loading Stages.storing loads stores Stages.addressed accessAddress Stages.stored Stages.storedWord access newCodes newMemory Stages.resultTarget Stages.loadedTarget newRegisters Stages.turned Stages.straight nextAddress isBad stepOf aokAt
+unfolding rowOf table is half value written Stages.register Stages.sourceA Stages.sourceB decode
+    Stages.computed Stages.result Stages.outcome execute
+    Stages.loading Stages.storing loads stores Stages.addressed accessAddress Stages.stored Stages.storedWord access
+    newCodes newMemory Stages.resultTarget Stages.loadedTarget newRegisters Stages.turned Stages.straight nextAddress isBad stepOf aokAt
 columnOf s code = stepOf s (aokAt (s .memory) (PC s) code)
 
 column : (s : Plain) (code : ℕ) → At s code → step s ≡ columnOf s code

@@ -79,13 +79,15 @@ module _ (m : Memory) (a n : ℕ) (some : 0 < n) where
   few-own =
       let k = min n (length m - a) in
       simp (length-take, length-drop)
-      (alike (ltb (length m) (a + n)) _ (λ e. lt-ltb k n (omega (arith, ltb-true (length m) (a + n) e))) (λ e. le-ltb k n (omega (arith, ltb-false (length m) (a + n) e))))
+      (alike (ltb (length m) (a + n)) _ (λ e. lt-ltb k n (omega (arith, ltb-true (length m) (a + n) e)))
+      (λ e. le-ltb k n (omega (arith, ltb-false (length m) (a + n) e))))
 
 -- THE FETCH: its checks in order, on memory itself, and the instruction that is then there
 pub fetch-is : (m : Memory) (a : ℕ)
     → let code = M₁ m a / 16 in
     let i = aokAt m a code in
-    fetch m a ≡ checked (leb (length m) a) (leb (rowOf code .functions) (i .function)) (ltb (length m) (a + rowOf code .size)) (not (halvesFit (rowOf code .byte) (i .ra) (i .rb))) (eqb code 0) i
+    fetch m a ≡ checked (leb (length m) a) (leb (rowOf code .functions) (i .function)) (ltb (length m) (a + rowOf code .size))
+    (not (halvesFit (rowOf code .byte) (i .ra) (i .rb))) (eqb code 0) i
 unfolding fetch parsed ownBytes sizeAt aokAt constantIn parts
 fetch-is m a =
     let row = rowOf (M₁ m a / 16) in

@@ -23,7 +23,8 @@ use Rattle.retiring.specs.declared.Tally.{Tally}
 use Rattle.retiring.specs.Retiring.{countedBy, keptBy, retires, statusAfter, tallyAfter}
 
 -- the charge by the predecessor
-module _ (k : Retired) (j : Instruction) (l a s : ℕ) (b c : Bool) (el : l ≡ loadedTarget (k .instruction)) (ea : a ≡ sourceA j) (es : s ≡ sourceB j) (eb : b ≡ (meets l a || meets l s)) where
+module _ (k : Retired) (j : Instruction) (l a s : ℕ) (b c : Bool) (el : l ≡ loadedTarget (k .instruction)) (ea : a ≡ sourceA j) (es : s ≡ sourceB j)
+    (eb : b ≡ (meets l a || meets l s)) where
   pub loaded-before : b ≡ true → 1 ≡ amount (reasonBehind asIn01 k j)
   unfolding reasonBehind amount loadUse
   loaded-before h = cc
@@ -54,7 +55,8 @@ pub keeps : (x : Accessed) (k l : Kept) (b : Bool) → b ≡ isBad (x .status) �
 unfolding keptBy
 keeps x k l b e h p = cc
 
-pub kept-now : (x : Accessed) (k : Kept) (i : Instruction) (b : Bool) → b ≡ isBad (x .status) → b ≡ false → i ≡ x .instruction → lastKept (record { instruction = i; holds = x .holds }) ≡ keptBy x k
+pub kept-now : (x : Accessed) (k : Kept) (i : Instruction) (b : Bool) → b ≡ isBad (x .status) → b ≡ false → i ≡ x .instruction
+    → lastKept (record { instruction = i; holds = x .holds }) ≡ keptBy x k
 unfolding keptBy retiredOf
 kept-now x k i b e h p = cc
 
@@ -69,11 +71,13 @@ counted-by t waited = refl
 counted-by t wronglyGuessed = refl
 counted-by t returned = refl
 
-pub only-a-cycle : (t : Tally) (w : StageW) (k : Kept) → w ≡ bubbleW → k ≡ t .kept → record { last = t .last; retired = t .retired; cycles = t .cycles + 1; kinds = t .kinds; kept = k } ≡ tallyAfter t w
+pub only-a-cycle : (t : Tally) (w : StageW) (k : Kept) → w ≡ bubbleW → k ≡ t .kept
+    → record { last = t .last; retired = t .retired; cycles = t .cycles + 1; kinds = t .kinds; kept = k } ≡ tallyAfter t w
 unfolding tallyAfter lastAfter retiredAfter kindsAfter keptAfter badInW
 only-a-cycle t w k h e = cc
 
-pub one-retired : (t : Tally) (w : StageW) (x : Accessed) (n : ℕ) (s : Kinds) (k : Kept) → w ≡ inW x → n ≡ amount (reasonFrom asIn01 (t .kept) (x .instruction)) → s ≡ countedBy (t .kinds) n → k ≡ keptBy x (t .kept)
+pub one-retired : (t : Tally) (w : StageW) (x : Accessed) (n : ℕ) (s : Kinds) (k : Kept) → w ≡ inW x → n ≡ amount (reasonFrom asIn01 (t .kept) (x .instruction))
+    → s ≡ countedBy (t .kinds) n → k ≡ keptBy x (t .kept)
     → record { last = x .instruction .address; retired = t .retired + 1; cycles = t .cycles + 1; kinds = s; kept = k } ≡ tallyAfter t w
 unfolding tallyAfter lastAfter retiredAfter kindsAfter keptAfter badInW keptBy
 one-retired t w x n s k h p q u = cc (counted-by (t .kinds) (reasonFrom asIn01 (t .kept) (x .instruction)))

@@ -7,6 +7,7 @@ use machine::Accessed;
 use machine::Instruction;
 use machine::Kept;
 use machine::Kinds;
+use machine::RET;
 use machine::Retired;
 use machine::StageW;
 use machine::Status;
@@ -18,6 +19,15 @@ ghost use Prim.Native.Nat.{_<_};
 ghost use Rattle.machine.specs.Prediction.{asIn01};
 ghost use Rattle.machine.specs.Charges.{amount, reasonBehind, reasonFrom};
 ghost use Rattle.retiring.specs.Retiring.{countedBy, keptBy, retires as retiresOf, statusAfter, tallyAfter, Small};
+
+// The charges, by their reasons.
+const FREE: u8 = 0;
+
+const WAITED: u8 = 1;
+
+const WRONGLY_GUESSED: u8 = 2;
+
+const RETURNED: u8 = 3;
 
 // What a clock counts, and what it is counted by.
 pub struct Tally {
@@ -34,15 +44,15 @@ fn charge_behind(k: Retired, j: Instruction) -> u8
 {
     let i = k.instruction;
     if meets_either(loaded_target(i), source_a(j), source_b(j)) {
-        return 1;
+        return WAITED;
     }
     if mispredicted(i, k.holds) & (i.function != 0) {
-        return 2;
+        return WRONGLY_GUESSED;
     }
-    if i.code == 9 {
-        return 3;
+    if i.code == RET {
+        return RETURNED;
     }
-    0
+    FREE
 }
 
 // With none kept the charge is 0.
@@ -50,7 +60,7 @@ fn charge_from(kept: Kept, j: Instruction) -> u8
     ensures { λ r. ⌜ r ≡ amount (reasonFrom asIn01 kept j) ⌝ }
 {
     match kept {
-        Kept::NoneKept => 0,
+        Kept::NoneKept => FREE,
         Kept::LastKept(k) => charge_behind(k, j),
     }
 }
@@ -61,17 +71,17 @@ fn count(kinds: Kinds, charge: u8) -> Kinds
     ensures { λ r. ⌜ r ≡ countedBy kinds charge ⌝ }
 {
     match charge {
-        1 => Kinds {
+        WAITED => Kinds {
             loaduse: kinds.loaduse + 1,
             mispredict: kinds.mispredict,
             returned: kinds.returned,
         },
-        2 => Kinds {
+        WRONGLY_GUESSED => Kinds {
             loaduse: kinds.loaduse,
             mispredict: kinds.mispredict + 2,
             returned: kinds.returned,
         },
-        3 => Kinds {
+        RETURNED => Kinds {
             loaduse: kinds.loaduse,
             mispredict: kinds.mispredict,
             returned: kinds.returned + 3,

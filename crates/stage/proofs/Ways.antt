@@ -5,7 +5,8 @@ use Prim.Native.Nat.{ℕ, _≤_, _<_}
 use lib.Dec.{eqb, ltb}
 use lib.ListN.{getD}
 use borrow.Author.Tests.{lt-ltb, le-ltb, eq-eqb, ne-eqb}
-use Rattle.stage.specs.Types.{Codes, Instruction, Decoded, Executed, Accessed, StageD, bubbleD, inD, StageE, bubbleE, inE, StageM, bubbleM, inM, StageW, bubbleW, inW}
+use Rattle.stage.specs.Types.{Codes, Instruction, Decoded, Executed, Accessed}
+use Rattle.stage.specs.Types.{StageD, bubbleD, inD, StageE, bubbleE, inE, StageM, bubbleM, inM, StageW, bubbleW, inW}
 use Rattle.machine.specs.Types.{isBad}
 use Rattle.machine.specs.Memory.{Memory, Registers, value, written}
 use Rattle.machine.specs.Table.{is}
@@ -94,7 +95,8 @@ pub ret-m : (s : StageM) (x : Executed) → s ≡ inM x → eqb (x .instruction 
 unfolding retInM is
 ret-m s x h = cc
 
-pub any-ret : (d : StageD) (e : StageE) (s : StageM) (x y z : Bool) → x ≡ retInD d → y ≡ retInE e → z ≡ retInM s → (x || (y || z)) ≡ (retInD d || (retInE e || retInM s))
+pub any-ret : (d : StageD) (e : StageE) (s : StageM) (x y z : Bool) → x ≡ retInD d → y ≡ retInE e → z ≡ retInM s
+    → (x || (y || z)) ≡ (retInD d || (retInE e || retInM s))
 any-ret d e s x y z p q u = cc
 
 pub none-bad : (w : StageW) → w ≡ bubbleW → false ≡ badInW w
@@ -158,7 +160,8 @@ pub word-of-w : (w : StageW) (x : Accessed) → w ≡ inW x → x .word ≡ word
 unfolding wordW
 word-of-w w x h = cc
 
-pub writes : (t : Targets) (w : StageW) (v x : ℕ) (r s z : Registers) → v ≡ resultW w → s ≡ written r (t .result) v → x ≡ wordW w → z ≡ written s (t .loaded) x → z ≡ writtenBy t w r
+pub writes : (t : Targets) (w : StageW) (v x : ℕ) (r s z : Registers) → v ≡ resultW w → s ≡ written r (t .result) v → x ≡ wordW w → z ≡ written s (t .loaded) x
+    → z ≡ writtenBy t w r
 unfolding writtenBy
 writes t w v x r s z p q e f = cc
 
@@ -187,7 +190,8 @@ module _ (t : Targets) (x : StageM) (u : Targets) (y : StageW) (r : Registers) (
         unfolding sourceBy value
         from-file g = cc (lt-ltb q 15 low, ne-eqb (t .result) q e, ne-eqb (u .loaded) q f, ne-eqb (u .result) q g)
 
-pub no-decode : (s : Sources) (t : Targets) (x : StageM) (u : Targets) (y : StageW) (r : Registers) (d : StageD) → d ≡ bubbleD → bubbleE ≡ decodedBy s t x u y r d
+pub no-decode : (s : Sources) (t : Targets) (x : StageM) (u : Targets) (y : StageW) (r : Registers) (d : StageD) → d ≡ bubbleD
+    → bubbleE ≡ decodedBy s t x u y r d
 unfolding decodedBy
 no-decode s t x u y r d h = cc
 
@@ -213,11 +217,13 @@ pub no-m : (s : StageM) (f : ℕ) → s ≡ bubbleM → f ≡ mended asIn01 s f
 unfolding mended
 no-m s f h = cc
 
-pub mends : (s : StageM) (f v : ℕ) (x : Executed) (b : Bool) → s ≡ inM x → b ≡ mispredicted asIn01 (x .instruction) (x .holds) → b ≡ true → v ≡ turned (x .instruction) (x .holds) → v ≡ mended asIn01 s f
+pub mends : (s : StageM) (f v : ℕ) (x : Executed) (b : Bool) → s ≡ inM x → b ≡ mispredicted asIn01 (x .instruction) (x .holds) → b ≡ true
+    → v ≡ turned (x .instruction) (x .holds) → v ≡ mended asIn01 s f
 unfolding mended
 mends s f v x b h e t p = cc
 
-pub no-mend : (s : StageM) (f : ℕ) (x : Executed) (b : Bool) → s ≡ inM x → b ≡ mispredicted asIn01 (x .instruction) (x .holds) → b ≡ false → f ≡ mended asIn01 s f
+pub no-mend : (s : StageM) (f : ℕ) (x : Executed) (b : Bool) → s ≡ inM x → b ≡ mispredicted asIn01 (x .instruction) (x .holds) → b ≡ false
+    → f ≡ mended asIn01 s f
 unfolding mended
 no-mend s f x b h e t = cc
 
@@ -239,10 +245,12 @@ goes-on b x y v h p = cc
 pub holds-d : (d e : StageD) (i : Instruction) (m w r : Bool) → m ≡ false → w ≡ true → e ≡ d → e ≡ cond m bubbleD (cond w d (cond r bubbleD (inD i)))
 holds-d d e i m w r f g p = cc
 
-pub returning-d : (d : StageD) (i : Instruction) (m w r : Bool) → m ≡ false → w ≡ false → r ≡ true → bubbleD ≡ cond m bubbleD (cond w d (cond r bubbleD (inD i)))
+pub returning-d : (d : StageD) (i : Instruction) (m w r : Bool) → m ≡ false → w ≡ false → r ≡ true
+    → bubbleD ≡ cond m bubbleD (cond w d (cond r bubbleD (inD i)))
 returning-d d i m w r f g h = cc
 
-pub enters-d : (d : StageD) (i j : Instruction) (m w r : Bool) → m ≡ false → w ≡ false → r ≡ false → j ≡ i → inD j ≡ cond m bubbleD (cond w d (cond r bubbleD (inD i)))
+pub enters-d : (d : StageD) (i j : Instruction) (m w r : Bool) → m ≡ false → w ≡ false → r ≡ false → j ≡ i
+    → inD j ≡ cond m bubbleD (cond w d (cond r bubbleD (inD i)))
 enters-d d i j m w r f g h p = cc
 
 pub d-afresh : (d : StageD) (i j : Instruction) → d ≡ inD i → j ≡ i → inD j ≡ d

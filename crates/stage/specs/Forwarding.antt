@@ -49,7 +49,8 @@ writtenBy t w r = written (written r (t .result) (resultW w)) (t .loaded) (wordW
 
 -- "the first match of: result in E, word loaded in M, result in M": t and u are the targets of what stood in E and M
 unfoldable pub sourceBy : Targets → StageM → Targets → StageW → Registers → ℕ → ℕ
-sourceBy t x u y r q = cond (ltb q 15) (cond (eqb (t .result) q) (resultM x) (cond (eqb (u .loaded) q) (wordW y) (cond (eqb (u .result) q) (resultW y) (value r q)))) 0
+sourceBy t x u y r q =
+    cond (ltb q 15) (cond (eqb (t .result) q) (resultM x) (cond (eqb (u .loaded) q) (wordW y) (cond (eqb (u .result) q) (resultW y) (value r q)))) 0
 
 -- decode by the sources s, on the register file that W has written
 unfoldable pub decodedBy : Sources → Targets → StageM → Targets → StageW → Registers → StageD → StageE

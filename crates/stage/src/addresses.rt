@@ -3,6 +3,8 @@ use crate::signals::mispredicted;
 use isa::executing::straight;
 use isa::executing::turned;
 use machine::Instruction;
+use machine::JUMP;
+use machine::RET;
 use machine::StageM;
 use machine::StageW;
 ghost use mathlib.Core.Path.{_≡_};
@@ -17,7 +19,11 @@ fn returned_to(w: StageW, predicted: u64) -> u64
         StageW::BubbleW => predicted,
         StageW::InW(x) => {
             let i = x.instruction;
-            if i.code == 9 { x.word } else { predicted }
+            let code = i.code;
+            match code {
+                RET => x.word,
+                _ => predicted,
+            }
         }
     }
 }
@@ -48,9 +54,9 @@ pub fn fetch_address(m: StageM, w: StageW, predicted: u64) -> u64
 pub fn predicted_next(i: Instruction) -> u64
     ensures { λ r. ⌜ r ≡ predictedNext asIn01 i ⌝ }
 {
-    if i.code == 7 {
-        turned(i, true)
-    } else {
-        straight(i)
+    let code = i.code;
+    match code {
+        JUMP => turned(i, true),
+        _ => straight(i),
     }
 }

@@ -5,6 +5,8 @@ use isa::decoding::source_a;
 use isa::decoding::source_b;
 use machine::Decoded;
 use machine::Instruction;
+use machine::NONE;
+use machine::REGISTERS;
 use machine::StageD;
 use machine::StageE;
 use machine::StageM;
@@ -28,7 +30,7 @@ pub fn sources_d(d: StageD) -> Sources
     ensures { λ r. ⌜ r ≡ sourcesD d ⌝ }
 {
     match d {
-        StageD::BubbleD => Sources { a: 15, b: 15 },
+        StageD::BubbleD => Sources { a: NONE, b: NONE },
         StageD::InD(i) => Sources {
             a: source_a(i),
             b: source_b(i),
@@ -40,8 +42,8 @@ pub fn no_targets() -> Targets
     ensures { λ r. ⌜ r ≡ noTargets ⌝ }
 {
     Targets {
-        result: 15,
-        loaded: 15,
+        result: NONE,
+        loaded: NONE,
     }
 }
 
@@ -112,12 +114,12 @@ fn source(
     executed: StageM,
     u: Targets,
     accessed: StageW,
-    registers: &[u64; 15],
+    registers: &[u64; REGISTERS],
     q: u8,
 ) -> u64
     ensures { λ r. ⌜ r ≡ sourceBy t executed u accessed (now (registers .entry)) q ⌝ }
 {
-    if 15 <= q {
+    if NONE <= q {
         return 0; // matches nothing
     }
     if t.result == q {
@@ -141,7 +143,7 @@ pub fn decode_d(
     executed: StageM,
     u: Targets,
     accessed: StageW,
-    registers: &[u64; 15],
+    registers: &[u64; REGISTERS],
 ) -> StageE
     ensures { λ r. ⌜ r ≡ decodedBy s t executed u accessed (now (registers .entry)) d ⌝ }
 {

@@ -1,6 +1,9 @@
 // The signals that the controls go by.
 use isa::decoding::is_bad;
 use machine::Instruction;
+use machine::JUMP;
+use machine::NONE;
+use machine::RET;
 use machine::StageD;
 use machine::StageE;
 use machine::StageM;
@@ -14,7 +17,7 @@ ghost use Rattle.machine.specs.Pipeline.{wrong as wrongOf, retInD, retInE, retI
 fn meets(target: u8, source: u8) -> bool
     ensures { λ r. ⌜ r ≡ meetsOf target source ⌝ }
 {
-    (source < 15) & (target == source)
+    (source < NONE) & (target == source)
 }
 
 // Load-use: a loaded register is among the sources a and b of another instruction.
@@ -28,7 +31,7 @@ pub fn meets_either(loaded: u8, a: u8, b: u8) -> bool
 pub fn mispredicted(i: Instruction, holds: bool) -> bool
     ensures { λ r. ⌜ r ≡ mispredictedOf asIn01 i holds ⌝ }
 {
-    (i.code == 7) & !holds
+    (i.code == JUMP) & !holds
 }
 
 // An executed jump that was guessed wrongly.
@@ -49,7 +52,7 @@ fn ret_in_d(d: StageD) -> bool
 {
     match d {
         StageD::BubbleD => false,
-        StageD::InD(i) => i.code == 9,
+        StageD::InD(i) => i.code == RET,
     }
 }
 
@@ -60,7 +63,7 @@ fn ret_in_e(e: StageE) -> bool
         StageE::BubbleE => false,
         StageE::InE(x) => {
             let i = x.instruction;
-            i.code == 9
+            i.code == RET
         }
     }
 }
@@ -72,7 +75,7 @@ fn ret_in_m(m: StageM) -> bool
         StageM::BubbleM => false,
         StageM::InM(x) => {
             let i = x.instruction;
-            i.code == 9
+            i.code == RET
         }
     }
 }

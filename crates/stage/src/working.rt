@@ -8,6 +8,7 @@ use isa::decoding::write;
 use isa::executing::execute;
 use isa::executing::new_codes;
 use machine::Codes;
+use machine::REGISTERS;
 use machine::StageE;
 use machine::StageM;
 use machine::StageW;
@@ -55,7 +56,7 @@ pub fn memory_after(m: StageM, memory: &mut [u8])
 }
 
 // W's write, to the targets that it carries: the result, and then the loaded word.
-pub fn registers_after(targets: Targets, w: StageW, registers: &mut [u64; 15])
+pub fn registers_after(targets: Targets, w: StageW, registers: &mut [u64; REGISTERS])
     ensures { λ _. ⌜ now (registers .exit) ≡ writtenBy targets w (now (registers .entry)) ⌝ }
 {
     write(registers, targets.result, result_w(w));

@@ -1,5 +1,6 @@
 // Both engines from one start, for a caller who wants to compare them.
 use machine::Codes;
+use machine::REGISTERS;
 ghost use Rattle.machine.specs.Runs.{plainAnswer, pipeAnswer};
 ghost use Rattle.together.specs.Both.{startOf, bothAnswer, RunsBoth};
 
@@ -11,7 +12,7 @@ pub struct Both {
 
 // Both engines started alike and run: the plain engine in memory, the pipeline in a copy of it. A refusal of one leaves the other alone.
 pub fn run_both(
-    registers: [u64; 15],
+    registers: [u64; REGISTERS],
     codes: Codes,
     address: u64,
     memory: &mut [u8],

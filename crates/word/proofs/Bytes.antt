@@ -53,7 +53,8 @@ module _ (m : List ℕ) (bytes : (i : ℕ) → Fits w8 (getD m i 0)) where
   number-below (suc k) a = omega (arith, number-below k (a + 1), bytes a, pow-succ' 256 k)
 
   -- a number in bytes that starts one byte sooner: what it is, and that it fits where the count does
-  pub number-sooner : (k l a n : ℕ) → 0 < l → l ≤ k → n ≡ number (k - l) m (a + l) → (getD m (a + (l - 1)) 0 + 256 * n ≡ number (k - (l - 1)) m (a + (l - 1))) × (getD m (a + (l - 1)) 0 + 256 * n < 256 ^ k)
+  pub number-sooner : (k l a n : ℕ) → 0 < l → l ≤ k → n ≡ number (k - l) m (a + l)
+      → (getD m (a + (l - 1)) 0 + 256 * n ≡ number (k - (l - 1)) m (a + (l - 1))) × (getD m (a + (l - 1)) 0 + 256 * n < 256 ^ k)
   unfolding number
   number-sooner k l a n h u e =
       let p : k - (l - 1) ≡ suc (k - l) = omega arith in

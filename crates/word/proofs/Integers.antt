@@ -31,8 +31,11 @@ same-sub a b c d e = by (ltb a b) (ltb c d) refl refl
 pub sum-sub : (a b c d : ℕ) → subℕ a b +ℤ subℕ c d ≡ subℕ (a + c) (b + d)
 sum-sub a b c d = by (ltb a b) (ltb c d) refl refl
   where
-    by : (s t : Bool) → ltb a b ≡ s → ltb c d ≡ t → cond s (negsuc (b - suc a)) (pos (a - b)) +ℤ cond t (negsuc (d - suc c)) (pos (c - d)) ≡ subℕ (a + c) (b + d)
-    by true true p q = negsuc-sub (suc (b - suc a + (d - suc c))) ∙ same-sub 0 (suc (suc (b - suc a + (d - suc c)))) (a + c) (b + d) (omega (arith, ltb-true a b p, ltb-true c d q))
+    by : (s t : Bool) → ltb a b ≡ s → ltb c d ≡ t
+        → cond s (negsuc (b - suc a)) (pos (a - b)) +ℤ cond t (negsuc (d - suc c)) (pos (c - d)) ≡ subℕ (a + c) (b + d)
+    by true true p q =
+        negsuc-sub (suc (b - suc a + (d - suc c))) ∙ same-sub 0 (suc (suc (b - suc a + (d - suc c)))) (a + c) (b + d)
+        (omega (arith, ltb-true a b p, ltb-true c d q))
     by true false p q = same-sub (c - d) (suc (b - suc a)) (a + c) (b + d) (omega (arith, ltb-true a b p, ltb-false c d q))
     by false true p q = same-sub (a - b) (suc (d - suc c)) (a + c) (b + d) (omega (arith, ltb-false a b p, ltb-true c d q))
     by false false p q = pos-sub (a - b + (c - d)) ∙ same-sub (a - b + (c - d)) 0 (a + c) (b + d) (omega (arith, ltb-false a b p, ltb-false c d q))
@@ -48,7 +51,8 @@ same-test a b c d f g = by (ltb c d) refl
 pub lt-sub : (a b c d : ℕ) → ltZ (subℕ a b) (subℕ c d) ≡ ltb (a + d) (c + b)
 lt-sub a b c d = by (ltb a b) (ltb c d) refl refl
   where
-    by : (s t : Bool) → ltb a b ≡ s → ltb c d ≡ t → ltZ (cond s (negsuc (b - suc a)) (pos (a - b))) (cond t (negsuc (d - suc c)) (pos (c - d))) ≡ ltb (a + d) (c + b)
+    by : (s t : Bool) → ltb a b ≡ s → ltb c d ≡ t
+        → ltZ (cond s (negsuc (b - suc a)) (pos (a - b))) (cond t (negsuc (d - suc c)) (pos (c - d))) ≡ ltb (a + d) (c + b)
     by true true p q =
         let h = ltb-true a b p in
         let k = ltb-true c d q in

@@ -33,7 +33,18 @@ module _ (w : Width) where
         record { sfits = rw (neg-sub, pos-sub (half - 1), sum-sub) (mag-sub (half - 1 + 0) (0 + k) half (omega arith) (omega arith)) },
         between (λ z. ltZ (top -ℤ pos k) z ≡ ltZ (z +ℤ pos k) least || ltZ top (z +ℤ pos k)) half
             (λ c d u v.
-            rw (neg-sub, pos-sub (half - 1), sum-sub, lt-sub, pos-sub k, sum-sub, negsuc-sub (half - 1), lt-sub (c + k) (d + 0) 0 (suc (half - 1)), lt-sub, le-ltb (c + k + suc (half - 1)) (0 + (d + 0)) (omega arith))
+            rw (
+              neg-sub,
+              pos-sub (half - 1),
+              sum-sub,
+              lt-sub,
+              pos-sub k,
+              sum-sub,
+              negsuc-sub (half - 1),
+              lt-sub (c + k) (d + 0) 0 (suc (half - 1)),
+              lt-sub,
+              le-ltb (c + k + suc (half - 1)) (0 + (d + 0)) (omega arith),
+            )
             (same-test (half - 1 + 0 + d) (c + (0 + k)) (half - 1 + (d + 0)) (c + k + 0) (λ e. omega arith) (λ e. omega arith)))
             b (f .sfits),
       )
@@ -46,7 +57,17 @@ module _ (w : Width) where
         record { sfits = mag-sub k (suc (half - 1)) half (omega arith) (omega arith) },
         between (λ z. ltZ z (least +ℤ pos k) ≡ ltZ (z -ℤ pos k) least || ltZ top (z -ℤ pos k)) half
             (λ c d u v.
-            rw (lt-sub, neg-sub, sum-sub, negsuc-sub (half - 1), lt-sub, pos-sub (half - 1), lt-sub, le-ltb (half - 1 + (d + k)) (c + 0 + 0) (omega arith), or-false)
+            rw (
+              lt-sub,
+              neg-sub,
+              sum-sub,
+              negsuc-sub (half - 1),
+              lt-sub,
+              pos-sub (half - 1),
+              lt-sub,
+              le-ltb (half - 1 + (d + k)) (c + 0 + 0) (omega arith),
+              or-false,
+            )
             (same-test (c + suc (half - 1)) (k + d) (c + 0 + suc (half - 1)) (0 + (d + k)) (λ e. omega arith) (λ e. omega arith)))
             b (f .sfits),
       )
@@ -57,9 +78,12 @@ module _ (w : Width) where
 
   module _ (b a : ℤ) (f : SFits w b) (g : SFits w a) where
     -- one law for the four tests: what is shown of a number with the sign that was tested holds of a, as held
-    tested : (s : Bool) (test : ℤ → ℤ → Bool) (end moved : ℤ → ℤ) → ((k : ℕ) → SFits w (cond s (pos k) (negsuc k)) → SFits w (end (cond s (pos k) (negsuc k))) × (test b (end (cond s (pos k) (negsuc k))) ≡ outside w (moved (cond s (pos k) (negsuc k))))) → leZ (pos 0) (held a) ≡ s → SFits w (end (held a)) × (test (held b) (held (end (held a))) ≡ outside w (moved a))
+    tested : (s : Bool) (test : ℤ → ℤ → Bool) (end moved : ℤ → ℤ)
+        → ((k : ℕ) → let z = cond s (pos k) (negsuc k) in SFits w z → SFits w (end z) × (test b (end z) ≡ outside w (moved z)))
+        → leZ (pos 0) (held a) ≡ s → SFits w (end (held a)) × (test (held b) (held (end (held a))) ≡ outside w (moved a))
     tested s test end moved h e =
-        let p : SFits w (end a) × (test b (end a) ≡ outside w (moved a)) = by-sign (λ z. SFits w z → SFits w (end z) × (test b (end z) ≡ outside w (moved z))) s h a (rw (toZ-ofZ w a g) at e) g in
+        let p : SFits w (end a) × (test b (end a) ≡ outside w (moved a)) =
+        by-sign (λ z. SFits w z → SFits w (end z) × (test b (end z) ≡ outside w (moved z))) s h a (rw (toZ-ofZ w a g) at e) g in
         rw (toZ-ofZ w a g) (p .0, rw (toZ-ofZ w b f, toZ-ofZ w (end a) (p .0)) (p .1))
 
     pub sum-other : leZ (pos 0) (held a) ≡ true → SFits w (top -ℤ held a) × (ltZ (held (top -ℤ held a)) (held b) ≡ outside w (b +ℤ a))

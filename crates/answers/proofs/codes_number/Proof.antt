@@ -1,3 +1,4 @@
+-- Each bit is at most 1, so that no product and no sum wraps; the number is the definition's by `Ways` `codes-is`.
 use Rattle.answers.proofs.Ways.{codes-is}
 use borrow.Author.Needs.{needs}
 use Rattle.answers.proofs.codes_number.Statement.{statement}

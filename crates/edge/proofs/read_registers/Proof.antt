@@ -1,3 +1,4 @@
+-- The invariant `Reads`: the first k of the fifteen words are those of the block. The measure is the words left.
 use borrow.Author.Needs.{needs}
 use native.Mathlib.Omega.{arith}
 use mathlib.Core.Path.{refl}

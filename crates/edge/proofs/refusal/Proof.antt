@@ -1,3 +1,4 @@
+-- The tests in the order of their numbers: one law of `Ways` for each way out. The `let`s name the record of facts behind each test that failed.
 use native.Mathlib.Omega.{arith}
 use Rattle.edge.proofs.Ways.{refused-1, refused-2, refused-3, refused-4, refused-5, refused-0}
 use borrow.Author.Needs.{needs}
@@ -26,7 +27,13 @@ returns-5 : tie.Need-returns-5
 returns-5 c = search (needs, refused-5)
 
 returns-6 : tie.Need-returns-6
-returns-6 c = refused-0 _ _ _ _ _ _ (c .before .before .before .before .before .before .size-refused .ensures) (c .before .before .before .before .before .if1 .left) _ (c .before .before .before .before .if2 .left) (c .before .before .before .budget-refused .ensures) (c .before .before .if3 .left) (c .before .if4 .left) (omega arith)
+returns-6 c =
+    let fourth = c .before in
+    let third = fourth .before in
+    let second = third .before .before in
+    let first = second .before in
+    refused-0 _ _ _ _ _ _ (first .before .size-refused .ensures) (first .if1 .left) _ (second .if2 .left) (third .before .budget-refused .ensures)
+    (third .if3 .left) (fourth .if4 .left) (omega arith)
 
 pub refusal-spec : {M : Type 1} → statement M
 refusal-spec =

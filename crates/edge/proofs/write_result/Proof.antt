@@ -19,7 +19,10 @@ same-length : tie.Need-same-length
 same-length c = search needs
 
 returns : tie.Need-returns
-returns c = result-is _ _ _ _ _ (c .before .before .before .before .before .before .status-number .ensures) (c .before .before .before .before .before .codes-number .ensures) (c .before .before .write-words .ensures)
+returns c =
+    let written = c .before .before in
+    let codes = written .before .before .before in
+    result-is _ _ _ _ _ (codes .before .status-number .ensures) (codes .codes-number .ensures) (written .write-words .ensures)
 
 pub write-result-spec : {M : Type 1} → statement M
 write-result-spec =

@@ -1,3 +1,4 @@
+-- The invariant `Writes`: the first k words stand in the block, at eight bytes each, and the rest of it is as it was. The measure is the words left.
 use borrow.Author.Needs.{needs}
 use native.Mathlib.Omega.{arith}
 use Rattle.edge.proofs.Blocks.{Writes, writes-first, writes-more, writes-all, writes-length}
@@ -34,7 +35,11 @@ loop-less : tie.Need-loop-less Inv-loop μ-loop
 loop-less c = omega arith
 
 loop-again : tie.Need-loop-again Inv-loop μ-loop
-loop-again c = writes-more _ _ _ _ _ (c .before .before .before .before .before .before .loop .inv) (c .before .before .before .before .before .loop-test .taken) (c .before .before .before .before .before .before .before .before .before .pre) (c .before .before .store .ensures)
+loop-again c =
+    let stored = c .before .before in
+    let turn = stored .before .before .before in
+    let start = turn .before .before .before .before in
+    writes-more _ _ _ _ _ (turn .before .loop .inv) (turn .loop-test .taken) (start .pre) (stored .store .ensures)
 
 same-length : tie.Need-same-length Inv-loop μ-loop
 same-length c = writes-length (c .before .loop .inv)

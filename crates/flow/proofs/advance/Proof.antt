@@ -1,3 +1,5 @@
+-- A clock of all stages. What each call gave goes into the one law `Ways` `flow-is`; memory and registers are those that the writes left. The `let`s
+-- name the record of facts behind a call, in the order of the code from `start` on.
 use Rattle.flow.proofs.Ways.{carried-on, flow-is}
 use borrow.Author.Needs.{needs}
 use Rattle.flow.proofs.advance.Statement.{statement}
@@ -64,8 +66,10 @@ returns c =
     let access = fetch .before .before in
     let first = access .before .before in
     let start = first .before .before .before .before .before in (
-      flow-is _ (start .pre .1) _ _ _ _ _ _ _ _ _ (first .after-e .ensures) (access .after-m .ensures) (fetch .fetch-now .ensures) (sources .before .targets-m .ensures)
-          (sources .sources-d .ensures) (decode .write-and-decode .ensures .0) (signals .signals-now .ensures) _ _ _ _ _ _ (controls .before .next-f .ensures) (controls .next-d .ensures)
+      flow-is _ (start .pre .1) _ _ _ _ _ _ _ _ _ (first .after-e .ensures) (access .after-m .ensures) (fetch .fetch-now .ensures)
+          (sources .before .targets-m .ensures)
+          (sources .sources-d .ensures) (decode .write-and-decode .ensures .0) (signals .signals-now .ensures) _ _ _ _ _ _ (controls .before .next-f .ensures)
+          (controls .next-d .ensures)
           (c .before .before .next-e .ensures) (c .before .next-m .ensures) (c .next-codes .ensures) (controls .before .before .before .next-targets .ensures),
       decode .write-and-decode .ensures .1,
       write .memory-after .ensures,

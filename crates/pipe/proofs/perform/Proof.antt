@@ -1,3 +1,5 @@
+-- What is refused is given back as it was (`Entries` `refused`). What is not meets the loop's `requires` (`Entries` `accepted`), and the loop's answer
+-- is the run's (`Entries` `not-refused`).
 use Rattle.pipe.proofs.Entries.{refused, not-refused, accepted}
 use borrow.Author.Needs.{needs}
 use Rattle.pipe.proofs.perform.Statement.{statement}
@@ -10,7 +12,9 @@ returns : tie.Need-returns
 returns c = search (needs, refused)
 
 looped-requires : tie.Need-looped-requires
-looped-requires c κs = accepted _ _ _ _ _ (c .before .before .before .before .refusal .ensures) (c .before .before .before .if1 .left)
+looped-requires c κs =
+    let tested = c .before .before .before in
+    accepted _ _ _ _ _ (tested .before .refusal .ensures) (tested .if1 .left)
 
 same-length : tie.Need-same-length
 same-length c = search needs

@@ -16,7 +16,9 @@ same-length-3 : tie.Need-same-length-3
 same-length-3 c = search needs
 
 returns : tie.Need-returns
-returns c = with-logs _ _ _ _ _ _ (c .before .before .before .before .before .before .perform .ensures)
+returns c =
+    let called = c .before .before .before .before .before .before in
+    with-logs _ _ _ _ _ _ (called .perform .ensures)
 
 pub run-spec : {M : Type 1} → statement M
 run-spec = tie.close (tie.spec perform-requires same-length same-length-2 same-length-3 returns)

@@ -22,7 +22,9 @@ same-length : tie.Need-same-length
 same-length c = search needs
 
 returns : tie.Need-returns
-returns c = without-logs _ _ _ _ _ _ _ _ (c .before .before .before .before .perform .ensures)
+returns c =
+    let called = c .before .before .before .before in
+    without-logs _ _ _ _ _ _ _ _ (called .perform .ensures)
 
 pub run-unlogged-spec : {M : Type 1} → statement M
 run-unlogged-spec =

@@ -1,3 +1,4 @@
+-- Field by field: the result is written first and then the loaded word, as `newRegisters` has it (`Ways` `performed-is`).
 use Rattle.plain.proofs.Ways.{performed-is}
 use borrow.Author.Needs.{needs}
 use Rattle.plain.proofs.after_performed.Statement.{statement}

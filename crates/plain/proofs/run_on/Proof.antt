@@ -1,3 +1,5 @@
+-- The invariant `Goes`: `done` instructions have been performed and logged, each at its place, the count with what is left of the budget is within
+-- the limit, and memory and log keep their lengths. The measure is what is left of the budget.
 use Rattle.plain.proofs.Ways.{runs-on, Goes, goes-first, goes-on, goes-over, goes-out}
 use borrow.Author.Needs.{needs}
 use native.Mathlib.Omega.{arith}
@@ -21,7 +23,11 @@ note-requires : tie.Need-note-requires Inv-loop μ-loop
 note-requires c κs = search needs
 
 advance-requires : tie.Need-advance-requires Inv-loop μ-loop
-advance-requires c κs = (omega (arith, c .before .before .before .before .before .before .before .before .loop .inv .counted, c .before .before .before .before .before .before .before .loop-test .taken), runs-on _ _ (c .before .before .before .before .before .before .is-stopped .ensures) (c .before .before .before .before .before .if1 .taken))
+advance-requires c κs =
+    let runs = c .before .before .before .before .before in
+    let stopped = runs .before in
+    let more = stopped .before in
+    (omega (arith, more .before .loop .inv .counted, more .loop-test .taken), runs-on _ _ (stopped .is-stopped .ensures) (runs .if1 .taken))
 
 add-done : tie.Need-add-done Inv-loop μ-loop
 add-done c = omega arith
@@ -30,7 +36,14 @@ loop-less : tie.Need-loop-less Inv-loop μ-loop
 loop-less c = omega arith
 
 loop-again : tie.Need-loop-again Inv-loop μ-loop
-loop-again c = goes-on _ _ _ _ _ _ _ _ (c .before .before .before .before .before .before .before .before .before .before .before .loop .inv) _ _ _ _ (c .before .before .before .before .before .before .before .before .before .before .loop-test .taken) (c .before .before .before .before .before .before .before .before .before .is-stopped .ensures) (c .before .before .before .before .before .before .before .before .if1 .taken) (c .before .before .advance .kept .1 .0) (c .before .before .before .before .before .before .note .ensures) (c .before .before .advance .ensures)
+loop-again c =
+    let advanced = c .before .before in
+    let noted = advanced .before .before .before .before in
+    let runs = noted .before .before in
+    let stopped = runs .before in
+    let more = stopped .before in
+    goes-on _ _ _ _ _ _ _ _ (more .before .loop .inv) _ _ _ _ (more .loop-test .taken) (stopped .is-stopped .ensures) (runs .if1 .taken)
+    (advanced .advance .kept .1 .0) (noted .note .ensures) (advanced .advance .ensures)
 
 same-length : tie.Need-same-length Inv-loop μ-loop
 same-length c = c .before .before .before .loop .inv .memory-long

@@ -1,3 +1,4 @@
+-- One law of `Ways` for each reason, in document 01's order: the load, the jump not taken, the ret, nothing.
 use Rattle.retiring.proofs.Ways.{loaded-before, jumped-before, returned-before, nothing-before}
 use borrow.Author.Needs.{needs}
 use Rattle.retiring.proofs.charge_behind.Statement.{statement}

@@ -1,3 +1,4 @@
+-- A bubble counts a cycle alone (`Ways` `only-a-cycle`), an instruction all the rest (`Ways` `one-retired`); no count wraps, since all are small.
 use Rattle.retiring.proofs.Ways.{only-a-cycle, one-retired}
 use borrow.Author.Needs.{needs}
 use Rattle.retiring.proofs.counted.Statement.{statement}

@@ -11,7 +11,9 @@ wrapping-sub-u64-requires c κs = search needs
 
 returns : tie.Need-returns
 unfolding difference
-returns c = wrapped-difference (2 ^ 64) (c .wrapping-sub-u64 .result) (c .before .args .b) (c .before .args .a) (omega arith) (omega arith) (c .wrapping-sub-u64 .ensures)
+returns c =
+    wrapped-difference (2 ^ 64) (c .wrapping-sub-u64 .result) (c .before .args .b) (c .before .args .a) (omega arith) (omega arith)
+    (c .wrapping-sub-u64 .ensures)
 
 pub difference-spec : {M : Type 1} → statement M
 difference-spec = tie.close (tie.spec wrapping-sub-u64-requires returns)

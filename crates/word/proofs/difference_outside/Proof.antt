@@ -18,7 +18,13 @@ returns : tie.Need-returns
 unfolding signed
 returns c =
     let s = c .before .before .before in
-    rw (c .signed-difference-outside .ensures, c .before .signed-word2 .ensures, c .before .before .signed-word .ensures, ofZ-toZ w64 _ (s .fits .b), ofZ-toZ w64 _ (s .fits .a))
+    rw (
+      c .signed-difference-outside .ensures,
+      c .before .signed-word2 .ensures,
+      c .before .before .signed-word .ensures,
+      ofZ-toZ w64 _ (s .fits .b),
+      ofZ-toZ w64 _ (s .fits .a),
+    )
 
 pub difference-outside-spec : {M : Type 1} → statement M
 difference-outside-spec =

@@ -15,11 +15,15 @@ abbrev μ-loop : tie.MeasureT-loop
 μ-loop memory at n₀ k₀ n k = k
 
 -- the byte taken and 256 times the number behind it: what that is, and that it fits
-taken : (c : tie.After-wide Inv-loop μ-loop) → let l = c .before .before .before .loop in let s = c .before .before .before .before .before .args in (c .wide .result + 256 * l .n ≡ number (8 - (l .k - 1)) (s .memory .now) (s .at + (l .k - 1))) × (c .wide .result + 256 * l .n < 256 ^ 8)
+taken : (c : tie.After-wide Inv-loop μ-loop) →
+    let l = c .before .before .before .loop in
+    let s = c .before .before .before .before .before .args in
+    (c .wide .result + 256 * l .n ≡ number (8 - (l .k - 1)) (s .memory .now) (s .at + (l .k - 1))) × (c .wide .result + 256 * l .n < 256 ^ 8)
 taken c =
     let l = c .before .before .before .loop in
+    let s = c .before .before .before .before .before .args in
     rw (c .wide .ensures .0)
-    (number-sooner _ (c .before .shared-slice-known2 .given) 8 (l .k) (c .before .before .before .before .before .args .at) (l .n) (search needs) (l .inv .1) (l .inv .0))
+    (number-sooner _ (c .before .shared-slice-known2 .given) 8 (l .k) (s .at) (l .n) (search needs) (l .inv .1) (l .inv .0))
 
 loop-holds : tie.Need-loop-holds Inv-loop μ-loop
 unfolding number

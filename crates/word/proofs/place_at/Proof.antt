@@ -10,7 +10,8 @@ use Rattle.word.proofs.place_at.Statement.{statement}
 use Rattle.word.proofs.place_at.Tie as tie
 
 abbrev Inv-loop : tie.InvT-loop
-Inv-loop memory₀ at v place₀ rest₀ left₀ memory place rest left = (placed left memory place rest ≡ placed 8 memory₀ at v) × (length memory ≡ length memory₀) × (place + left ≤ length memory₀)
+Inv-loop memory₀ at v place₀ rest₀ left₀ memory place rest left =
+    (placed left memory place rest ≡ placed 8 memory₀ at v) × (length memory ≡ length memory₀) × (place + left ≤ length memory₀)
 
 abbrev μ-loop : tie.MeasureT-loop
 μ-loop memory₀ at v place₀ rest₀ left₀ memory place rest left = left

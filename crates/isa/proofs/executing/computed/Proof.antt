@@ -1,3 +1,4 @@
+-- Each arm is the clause of `computedBy` for that number; the last is reached when the number is none of the six.
 use Rattle.isa.specs.Decisions.{computedBy}
 use borrow.Author.Tests.{ne-eqb}
 use borrow.Author.Needs.{needs}
@@ -42,7 +43,13 @@ returns-6 c = rw (c .before .match .keys6) (c .sum2 .ensures)
 
 returns-7 : tie.Need-returns-7
 unfolding computedBy
-returns-7 c = simp (ne-eqb _ _ (c .match .rest .0 .0 .0 .0 .0 .1), ne-eqb _ _ (c .match .rest .0 .0 .0 .0 .1), ne-eqb _ _ (c .match .rest .0 .0 .0 .1), ne-eqb _ _ (c .match .rest .0 .0 .1), ne-eqb _ _ (c .match .rest .0 .1), ne-eqb _ _ (c .match .rest .1))
+returns-7 c =
+    let six = c .match .rest in
+    let five = six .0 in
+    let four = five .0 in
+    let three = four .0 in
+    let two = three .0 in
+    simp (ne-eqb _ _ (two .0 .1), ne-eqb _ _ (two .1), ne-eqb _ _ (three .1), ne-eqb _ _ (four .1), ne-eqb _ _ (five .1), ne-eqb _ _ (six .1))
 
 pub computed-spec : {M : Type 1} → statement M
 computed-spec =

@@ -1,3 +1,4 @@
+-- Each arm is the entry of the definition's list at that number; past six the list has none (`Ways` `no-condition`).
 use Rattle.isa.proofs.Ways.{past-six, no-condition}
 use Rattle.machine.specs.Stages.{condition}
 use Rattle.isa.proofs.executing.condition.Statement.{statement}
@@ -32,7 +33,14 @@ unfolding condition
 returns-7 c = rw (c .match .keys7)
 
 returns-8 : tie.Need-returns-8
-returns-8 c = no-condition _ _ (past-six _ (c .match .rest .0 .0 .0 .0 .0 .0 .1) (c .match .rest .0 .0 .0 .0 .0 .1) (c .match .rest .0 .0 .0 .0 .1) (c .match .rest .0 .0 .0 .1) (c .match .rest .0 .0 .1) (c .match .rest .0 .1) (c .match .rest .1))
+returns-8 c =
+    let six = c .match .rest in
+    let five = six .0 in
+    let four = five .0 in
+    let three = four .0 in
+    let two = three .0 in
+    let one = two .0 in
+    no-condition _ _ (past-six _ (one .0 .1) (one .1) (two .1) (three .1) (four .1) (five .1) (six .1))
 
 pub condition-spec : {M : Type 1} → statement M
 condition-spec =

@@ -10,7 +10,7 @@ returns : tie.Need-returns
 returns c = search (needs, tested)
 
 returns-2 : tie.Need-returns-2
-returns-2 c = search (needs, untested)
+returns-2 c = untested _ _ (c .match .rest .1)
 
 pub outcome-spec : {M : Type 1} → statement M
 outcome-spec = tie.close (tie.spec condition-requires returns returns-2)

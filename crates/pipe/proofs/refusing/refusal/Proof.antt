@@ -1,3 +1,4 @@
+-- The tests in the order of their numbers: one law of `Ways` for each way out.
 use Rattle.pipe.proofs.Ways.{first-refusal, third-refusal, fourth-refusal, fifth-refusal, no-refusal}
 use borrow.Author.Needs.{needs}
 use Rattle.pipe.proofs.refusing.refusal.Statement.{statement}

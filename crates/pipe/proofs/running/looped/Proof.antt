@@ -1,3 +1,7 @@
+-- The invariant: flow, counts, status, registers, memory and logs are those after `done` clocks of the definition (`Runs` `Here`, which also keeps the
+-- counts small and the carried targets right), `done` is within the budget, and memory keeps its length. The measure is what is left of the budget.
+-- A turn goes on by `here-next`, or stops in its clock by `here-stopped`. The `let`s name the record of facts at a place of the turn: `turn` where it
+-- begins, `retired` behind `retires`, `noted` behind the second `note`, `tested` behind `bad_in_w`.
 use mathlib.Core.Logic.{⊎-elim}
 use mathlib.Core.Path.{_≡_, refl, sym, _∙_}
 use Prim.Native.Nat.{_-_, _≤_}
@@ -12,8 +16,8 @@ use Rattle.pipe.proofs.running.looped.Tie as tie
 
 abbrev Inv-loop : tie.InvT-loop
 Inv-loop memory₀ budget addresses₀ cycles₀ first registers₀ flow₀ tally₀ status₀ done₀ memory addresses cycles registers flow tally status done =
-    Here (pipedOf (whole flow₀ tally₀ status₀ registers₀) memory₀) first addresses₀ cycles₀ done flow tally status registers memory addresses cycles × (done ≤ budget)
-    × (length memory ≡ length memory₀)
+    Here (pipedOf (whole flow₀ tally₀ status₀ registers₀) memory₀) first addresses₀ cycles₀ done flow tally status registers memory addresses cycles
+    × (done ≤ budget) × (length memory ≡ length memory₀)
 
 abbrev μ-loop : tie.MeasureT-loop
 μ-loop memory₀ budget addresses₀ cycles₀ first registers₀ flow₀ tally₀ status₀ done₀ memory addresses cycles registers flow tally status done =
@@ -54,32 +58,48 @@ note-requires-2 c κs = search needs
 
 add-done : tie.Need-add-done Inv-loop μ-loop
 add-done c =
-    let i = c .before .before .before .before .before .before .before .before .before .before .before .before .before .before in
-    omega (arith, i .loop-test .taken, i .before .before .before .before .before .before .before .before .fits .budget)
+    let noted = c .before .before in
+    let retired = noted .before .before .before .before .before .before .before .before in
+    let turn = retired .before .before .before .before in
+    let start = turn .before .before .before .before .before .before .before .before in
+    omega (arith, turn .loop-test .taken, start .fits .budget)
 
 bad-in-w-requires : tie.Need-bad-in-w-requires Inv-loop μ-loop
 bad-in-w-requires c κs = search needs
 
 advance-requires : tie.Need-advance-requires Inv-loop μ-loop
 advance-requires c κs =
-    let h = c .before .before .before .before .before .before .before .before .before .before .before .before .before .before .before .before .before .before .before .loop .inv .0 in
-    (h .long, h .ahead)
+    let tested = c .before .before in
+    let noted = tested .before .before .before .before in
+    let retired = noted .before .before .before .before .before .before .before .before in
+    let turn = retired .before .before .before .before in
+    let here = turn .before .loop .inv .0 in
+    (here .long, here .ahead)
 
 loop-less : tie.Need-loop-less Inv-loop μ-loop
-loop-less c = omega (arith, c .before .before .before .before .before .before .before .before .before .before .before .before .before .before .before .before .before .before .before .before .before .loop-test .taken)
+loop-less c =
+    let tested = c .before .before .before .before .before in
+    let noted = tested .before .before .before .before in
+    let retired = noted .before .before .before .before .before .before .before .before in
+    let turn = retired .before .before .before .before in
+    omega (arith, turn .loop-test .taken)
 
 loop-again : tie.Need-loop-again Inv-loop μ-loop
 loop-again c =
-    let v = c .before .before .before .before .before in
-    let n = v .before .before .before .before in
-    let q = n .before .before .before .before .before .before .before .before in
-    let l = q .before .before .before .before .before in (
-      here-next (l .loop .inv .0) (q .before .before .before .is-bad .ensures) (q .before .before .if1 .left) (q .retires .ensures)
-          (n .before .before .before .before .before .before .before .counted .ensures) (n .before .before .before .before .before .before .status-after .ensures)
-          (n .before .before .before .before .note .ensures) (n .note2 .ensures) (v .before .bad-in-w .ensures) (v .if2 .left)
-          (c .before .before .advance .ensures .0) (c .before .before .advance .ensures .1) (c .before .before .advance .ensures .2),
-      omega (arith, q .before .before .before .before .loop-test .taken),
-      c .before .before .advance .kept .1 .1 .0 ∙ l .loop .inv .2,
+    let advanced = c .before .before in
+    let tested = advanced .before .before .before in
+    let noted = tested .before .before .before .before in
+    let after-status = noted .before .before .before .before .before .before in
+    let retired = after-status .before .before in
+    let runs = retired .before .before in
+    let turn = runs .before .before in
+    let l = turn .before in (
+      here-next (l .loop .inv .0) (runs .before .is-bad .ensures) (runs .if1 .left) (retired .retires .ensures) (after-status .before .counted .ensures)
+          (after-status .status-after .ensures) (noted .before .before .before .before .note .ensures) (noted .note2 .ensures)
+          (tested .before .bad-in-w .ensures) (tested .if2 .left) (advanced .advance .ensures .0) (advanced .advance .ensures .1)
+          (advanced .advance .ensures .2),
+      omega (arith, turn .loop-test .taken),
+      advanced .advance .kept .1 .1 .0 ∙ l .loop .inv .2,
     )
 
 put-together-requires : tie.Need-put-together-requires Inv-loop μ-loop
@@ -95,7 +115,9 @@ returns c =
     (⊎-elim
     (λ w. at-stop _ from (l .loop .inv .0) (c .put-together .ensures) (w .3) (w .4) (w .5) (w .6) (l .loop .inv .1) (sym (w .1 .ensures) ∙ w .2 .taken))
     (λ w.
-    let h = here-stopped (l .loop .inv .0) (w .1 .ensures) (w .2 .left) (w .4 .ensures) (w .5 .ensures) (w .6 .ensures) (w .8 .ensures) (w .12 .ensures) (w .15 .ensures) (w .16 .taken) in
+    let h =
+    here-stopped (l .loop .inv .0) (w .1 .ensures) (w .2 .left) (w .4 .ensures) (w .5 .ensures) (w .6 .ensures) (w .8 .ensures) (w .12 .ensures)
+    (w .15 .ensures) (w .16 .taken) in
     at-stop _ from (h .0) (c .put-together .ensures) (w .17) (w .18) (w .19) (w .20) (omega (arith, w .0 .taken)) (h .1)))
     (c .before .loop-test .came)
 

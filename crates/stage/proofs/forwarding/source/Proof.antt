@@ -1,3 +1,4 @@
+-- One law of `Ways` for each place that a source comes from, in document 01's order.
 use Rattle.stage.proofs.Ways.{no-source, from-e, word-from-m, result-from-m, from-file}
 use borrow.Author.Needs.{needs}
 use Rattle.stage.proofs.forwarding.source.Statement.{statement}
