@@ -52,7 +52,7 @@ P3-written = refl
 -- irmovq $k for each register k below n, downwards, and halt
 abbrev settings : ℕ → Memory
 settings zero = 0x00 ∷ []
-settings (suc k) = 0x30 ∷ 0xf0 + k ∷ k ∷ replicate 7 0 ++ settings k
+settings (suc k) = 0x30 ∷ (0xf0 + k) ∷ k ∷ (replicate 7 0 ++ settings k)
 
 -- every register but rax, which is 0, has its line, in number order
 pub registers-written : writes (settings 15) ≡ bytes
