@@ -3,3 +3,5 @@ pub mod Grammar
 pub mod Reading
 pub mod ReadingLaws
 pub mod Accepted
+pub mod Faults
+pub mod Meaning
