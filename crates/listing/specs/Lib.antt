@@ -5,3 +5,4 @@ pub mod ReadingLaws
 pub mod Accepted
 pub mod Faults
 pub mod Meaning
+pub mod Table
