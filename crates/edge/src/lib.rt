@@ -1,4 +1,7 @@
-// The host edge: one exported function on byte slices and numbers.
+// The host edge: exported functions on byte slices and numbers.
+mod listings;
+
+pub use listings::y86_read_listing;
 use machine::Codes;
 use machine::PIPE_LIMIT;
 use machine::Pipeline;

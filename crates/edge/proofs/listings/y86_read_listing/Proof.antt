@@ -1,0 +1,37 @@
+use Rattle.edge.proofs.Faults.{block-of-16, listing-refused, listing-told}
+use borrow.Author.Needs.{needs}
+use Rattle.edge.proofs.listings.y86_read_listing.Statement.{statement}
+use Rattle.edge.proofs.listings.y86_read_listing.Tie as tie
+
+refusal-requires : tie.Need-refusal-requires
+refusal-requires c κs = search needs
+
+returns : tie.Need-returns
+returns c = listing-refused _ _ _ _ (c .before .refusal .ensures) (c .if1 .taken)
+
+read-requires : tie.Need-read-requires
+read-requires c κs = search needs
+
+tell-requires : tie.Need-tell-requires
+tell-requires c κs = block-of-16 _ _ _ (c .before .before .before .before .before .before .refusal .ensures) (c .before .before .before .before .before .if1 .left)
+
+same-length : tie.Need-same-length
+same-length c = search needs
+
+same-length-2 : tie.Need-same-length-2
+same-length-2 c = search needs
+
+returns-2 : tie.Need-returns-2
+returns-2 c = listing-told _ _ _ _ (c .before .before .before .before .before .before .before .before .before .refusal .ensures) _ _ _ _ (c .before .before .before .before .before .before .before .before .if1 .left) (c .before .before .before .before .before .before .read .ensures) (c .before .before .tell .ensures)
+
+pub y86-read-listing-spec : {M : Type 1} → statement M
+y86-read-listing-spec =
+    tie.close
+    (tie.spec
+    refusal-requires
+    returns
+    read-requires
+    tell-requires
+    same-length
+    same-length-2
+    returns-2)
