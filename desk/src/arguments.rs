@@ -2,12 +2,17 @@
 
 use crate::bench::Once;
 use crate::inspect::Asked;
+use crate::listing;
 use crate::Fault;
 use std::ffi::{OsStr, OsString};
+
+/// The size of memory where none is given: the most that document 01 has.
+const SIZE: u64 = 4_096;
 
 pub enum Command {
     Help,
     Replay(Asked),
+    Read(listing::Asked),
     Bench,
     Instructions,
     /// One replay without a time, for `bench --instructions` to count.
@@ -20,13 +25,14 @@ pub fn read(words: Vec<OsString>) -> Result<Command, Fault> {
         return Ok(Command::Help);
     }
     let Some((first, rest)) = words.split_first() else {
-        return Err(usage("a command is missing: replay or bench"));
+        return Err(usage("a command is missing: replay, read or bench"));
     };
     match first.to_str() {
         Some("replay") => replay(rest).map(Command::Replay),
+        Some("read") => read_listing(rest).map(Command::Read),
         Some("bench") => bench(rest),
         _ => Err(usage(format!(
-            "{} is no command; there are replay and bench",
+            "{} is no command; there are replay, read and bench",
             shown(first)
         ))),
     }
@@ -39,6 +45,7 @@ fn replay(words: &[OsString]) -> Result<Asked, Fault> {
     while let Some(word) = words.next() {
         match word.to_str() {
             Some("--second") => once("--second", options.second.replace(()))?,
+            Some("--listing") => once("--listing", options.listing.replace(()))?,
             Some(name) if name.starts_with("--") => {
                 let (name, joined) = split(name);
                 let place = options.named(name)?;
@@ -58,6 +65,36 @@ fn replay(words: &[OsString]) -> Result<Asked, Fault> {
     options.asked()
 }
 
+/// The words after `desk read`, in any order.
+fn read_listing(words: &[OsString]) -> Result<listing::Asked, Fault> {
+    let (mut text, mut image, mut size) = (None, None, None);
+    let mut words = words.iter();
+    while let Some(word) = words.next() {
+        let (name, joined) = split(word.to_str().unwrap_or(""));
+        let (name, place) = match name {
+            "-o" => ("-o", &mut image),
+            "--size" => ("--size", &mut size),
+            _ if name.starts_with('-') => {
+                return Err(usage(format!("{name} is no option of read")));
+            }
+            _ => {
+                once("LISTING", text.replace(word.clone()))?;
+                continue;
+            }
+        };
+        let value = joined.or_else(|| words.next().cloned());
+        let value = value.ok_or_else(|| usage(format!("{name} wants a value")))?;
+        once(name, place.replace(value))?;
+    }
+    let text = text.ok_or_else(|| usage("read wants a listing: a file of text"))?;
+    let image = image.ok_or_else(|| usage("read wants -o and the file to write the image to"))?;
+    Ok(listing::Asked {
+        listing: text.into(),
+        image: image.into(),
+        size: number_or("--size", size, SIZE)?,
+    })
+}
+
 /// An option and, where they are joined by `=`, its value.
 fn split(word: &str) -> (&str, Option<OsString>) {
     match word.split_once('=') {
@@ -74,6 +111,8 @@ struct Options {
     codes: Option<OsString>,
     budget: Option<OsString>,
     registers: Option<OsString>,
+    size: Option<OsString>,
+    listing: Option<()>,
     second: Option<()>,
 }
 
@@ -85,6 +124,7 @@ impl Options {
             "--codes" => Ok(&mut self.codes),
             "--budget" => Ok(&mut self.budget),
             "--registers" => Ok(&mut self.registers),
+            "--size" => Ok(&mut self.size),
             _ => Err(usage(format!("{name} is no option of replay"))),
         }
     }
@@ -94,8 +134,15 @@ impl Options {
         let image = self
             .image
             .ok_or_else(|| usage("replay wants an image: a file of 1 to 4,096 raw bytes"))?;
+        if self.size.is_some() && self.listing.is_none() {
+            return Err(usage(
+                "--size is for a listing: a raw image has its own size",
+            ));
+        }
+        let size = number_or("--size", self.size, SIZE)?;
         Ok(Asked {
             image: image.into(),
+            listing: self.listing.map(|()| size),
             registers: self.registers.map(Into::into),
             start: number_or("--start", self.start, 0)?,
             codes: number_or("--codes", self.codes, 4)?,

@@ -1,8 +1,8 @@
 //! The product, called through its host edge.
 
-// Nothing checks this declaration against the Rattle source: it is written
-// after `y86_replay` in crates/edge/src/lib.rt by hand, and the two change
-// together. A slice passes as its pointer and then its length.
+// Nothing checks these declarations against the Rattle source: they are written
+// after the functions of crates/edge/src/ by hand, and the two change together.
+// A slice passes as its pointer and then its length.
 extern "C" {
     fn y86_replay(
         memory: *mut u8,
@@ -14,6 +14,15 @@ extern "C" {
         start: u64,
         codes: u64,
         budget: u64,
+    ) -> u64;
+
+    fn y86_read_listing(
+        text: *const u8,
+        text_length: usize,
+        memory: *mut u8,
+        memory_length: usize,
+        fault: *mut u8,
+        fault_length: usize,
     ) -> u64;
 }
 
@@ -47,6 +56,26 @@ pub fn replay(
         )
     }
 }
+
+/// Memory becomes the image of a listing, and the answer is 0; or a refusal by
+/// its number, where 9 is a faulty line, whose number and kind are left in the
+/// block of 16 bytes. Any lengths may be given.
+pub fn read_listing(text: &[u8], memory: &mut [u8], fault: &mut [u8]) -> u64 {
+    // SAFETY: as above; the text is only read.
+    unsafe {
+        y86_read_listing(
+            text.as_ptr(),
+            text.len(),
+            memory.as_mut_ptr(),
+            memory.len(),
+            fault.as_mut_ptr(),
+            fault.len(),
+        )
+    }
+}
+
+/// A reader of listings through the edge, or one that takes and leaves the same.
+pub type ReadListing = fn(&[u8], &mut [u8], &mut [u8]) -> u64;
 
 /// A replay through the edge, or one that takes and leaves the same.
 pub type Replay = fn(&mut [u8], &mut [u8], &mut [u8], u64, u64, u64) -> u64;

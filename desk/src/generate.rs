@@ -3,11 +3,13 @@
 //! The same seed gives the same cases, on every machine.
 
 mod calls;
+mod listings;
 mod programs;
 mod random;
 mod records;
 
 pub use calls::{Call, Calls, Origin, Way};
+pub use listings::{Damage, Listed, Listings};
 pub use random::Random;
 pub use records::Record;
 

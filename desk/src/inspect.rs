@@ -1,5 +1,6 @@
 //! `desk replay`: reads the files, replays, and tells what came of it.
 
+use crate::listing;
 use crate::report::{self, Before};
 use crate::Fault;
 use desk::engine::{self, Replay};
@@ -13,6 +14,8 @@ use std::path::{Path, PathBuf};
 /// One replay as the command line asks for it.
 pub struct Asked {
     pub image: PathBuf,
+    /// Where the image is a listing: the size of memory.
+    pub listing: Option<u64>,
     pub registers: Option<PathBuf>,
     pub start: u64,
     pub codes: u64,
@@ -22,16 +25,19 @@ pub struct Asked {
 
 /// A file's first bytes, one more than may be used: what is too long is seen
 /// to be so, and not read on, however long it is.
-struct Source {
-    name: String,
-    bytes: Vec<u8>,
+pub struct Source {
+    pub name: String,
+    pub bytes: Vec<u8>,
     /// The whole length, where the file has one.
-    length: Option<u64>,
+    pub length: Option<u64>,
 }
 
 /// The text to show for a replay, and the exit status.
 pub fn replay(asked: &Asked) -> Result<(String, u8), Fault> {
-    let image = Source::read(&asked.image, MEMORY_LIMIT)?;
+    let image = match asked.listing {
+        Some(size) => listing::image(&asked.image, size)?,
+        None => Source::read(&asked.image, MEMORY_LIMIT)?,
+    };
     let given = match &asked.registers {
         Some(path) => Source::read(path, REGISTER_BYTES)?,
         None => Source::zeros(REGISTER_BYTES),
@@ -77,7 +83,7 @@ fn refusal(number: u64, asked: &Asked, image: &Source, registers: &Source) -> St
 }
 
 impl Source {
-    fn read(path: &Path, most: usize) -> Result<Source, Fault> {
+    pub fn read(path: &Path, most: usize) -> Result<Source, Fault> {
         let name = path.display().to_string();
         let fault = |why: String| Fault::new(Fault::FILE, format!("cannot read {name}: {why}"));
         let file = File::open(path).map_err(|error| fault(words(&error)))?;
@@ -105,7 +111,7 @@ impl Source {
     }
 
     /// How long it is, for a refusal.
-    fn says(&self) -> String {
+    pub fn says(&self) -> String {
         let (name, seen) = (&self.name, self.bytes.len() as u64);
         match self.length {
             _ if seen == 0 => format!("{name} is empty, 0 bytes"),

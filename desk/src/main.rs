@@ -3,6 +3,7 @@
 mod arguments;
 mod bench;
 mod inspect;
+mod listing;
 mod report;
 
 use arguments::Command;
@@ -13,12 +14,23 @@ const HELP: &str = "\
 desk: replays of Y86-64 images by the proved engine, for inspectors
 
 usage:
-  desk replay IMAGE [options]   replay a raw image and show what it left
+  desk replay IMAGE [options]   replay an image and show what it left
+  desk read LISTING -o IMAGE [--size N]
+                                read a listing and write its raw image
   desk bench                    time the engine against the second program
   desk bench --instructions     count both engines' instructions (by valgrind)
   desk --help                   this text
 
-IMAGE is a file of 1 to 4,096 bytes: the memory, as it stands at the start.
+IMAGE is a file of 1 to 4,096 raw bytes: the memory, as it stands at the start.
+
+LISTING is an image as text, one record a line, each ended by a line feed. Tabs
+part its fields: the address in hex (1 to 16 digits), the bytes in hex (two
+digits each, 1 to 16 bytes), and, if there is more, a remark. Lines ascend
+without overlap. Bytes that no line names are 0.
+
+options for a listing:
+  --size N           how many bytes of memory the image has (4096)
+  --listing          of replay: IMAGE is a listing (with --size, if wanted)
 
 options of replay:
   --start A          the address to start from (0)
@@ -29,7 +41,8 @@ options of replay:
   --second           a second opinion: by the second program, not the engine
 
 Numbers are decimal, or hex after 0x. An option that is not given has the value
-in brackets, as in the program y86run. No file is changed.
+in brackets, as in the program y86run. No file is changed but the one that read
+writes, and that only where the whole listing is right.
 
 What is shown: status, last address, codes, instructions retired, cycles, the
 registers that are not 0, and the words that changed in memory (8 bytes each
@@ -87,6 +100,7 @@ fn perform(command: Command) -> Result<u8, Fault> {
             let (text, status) = inspect::replay(&asked)?;
             say(&text).map(|()| status)
         }
+        Command::Read(asked) => say(&listing::read(&asked)?).map(|()| 0),
         Command::Bench => bench::times().map(|()| 0),
         Command::Instructions => bench::instructions::count().map(|()| 0),
         Command::Once(once) => once.run().map(|()| 0),

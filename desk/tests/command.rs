@@ -174,8 +174,8 @@ fn commands_at_fault_are_explained() {
     }
     fault(&bad("18446744073709551616"), 64, &["64 bits"]);
     fault(&bad("0x10000000000000000"), 64, &["64 bits"]);
-    fault(&[], 64, &["replay or bench"]);
-    fault(&["play"], 64, &["'play'", "replay and bench"]);
+    fault(&[], 64, &["replay, read or bench"]);
+    fault(&["play"], 64, &["'play'", "replay, read and bench"]);
     fault(&["replay"], 64, &["image"]);
     fault(&["replay", &image, &image], 64, &["one image"]);
     fault(
@@ -194,6 +194,80 @@ fn commands_at_fault_are_explained() {
     );
 }
 
+/// The listing of 001, as the examples have it.
+const LISTING: &str = concat!(env!("CARGO_MANIFEST_DIR"), "/../examples/listing_001.lst");
+
+#[test]
+fn a_listing_is_read_and_replayed() {
+    let image = file("read.img", &[]);
+    let given = ["read", LISTING, "-o", &image, "--size", "256"];
+    let (code, output, message) = said(&given);
+    assert_eq!((code, message.as_str()), (0, ""));
+    assert_eq!(output, format!("{image}: 256 bytes\n"));
+    assert_eq!(std::fs::read(&image).expect("the image"), listing_001());
+    let (code, _, _) = said(&["read", "-o", &image, LISTING]);
+    let read = std::fs::read(&image).expect("the image");
+    assert_eq!((code, read.len()), (0, 4_096));
+    let given = ["replay", "--listing", LISTING, "--size=256"];
+    assert_eq!(said(&given), (0, SHOWN.into(), String::new()));
+    let second = said(&[&given[..], &["--second"]].concat());
+    assert_eq!(second, (0, SHOWN.into(), String::new()));
+}
+
+#[test]
+fn faulty_listings_are_explained() {
+    let image = file("kept.img", b"kept");
+    let cases: [(&str, &[u8], &[&str]); 5] = [
+        ("form", b"0\t00\n1\t0x\n", &["line 2", "not hex", "kind 1"]),
+        (
+            "unended",
+            b"0\t00\n1\t00",
+            &["line 2", "line feed", "kind 1"],
+        ),
+        ("count", b"0\t001\n", &["line 1", "odd", "kind 2"]),
+        (
+            "order",
+            b"0\t0000\n1\t00\n",
+            &["line 2", "not above", "kind 3"],
+        ),
+        ("beyond", b"fff\t0000\n", &["line 1", "beyond", "kind 4"]),
+    ];
+    for (name, text, says) in cases {
+        let listing = file(name, text);
+        let says = [&["refused (9)", name][..], says].concat();
+        fault(&["read", &listing, "-o", &image], 10, &says);
+        fault(&["replay", &listing, "--listing"], 10, &says);
+        assert_eq!(std::fs::read(&image).expect("the image"), b"kept");
+    }
+    for size in ["0", "99999999999"] {
+        let given = ["read", LISTING, "-o", &image, "--size", size];
+        fault(&given, 10, &["refused (1)", size]);
+    }
+    assert_eq!(std::fs::read(&image).expect("the image"), b"kept");
+    let listing = file("itself", b"0\t00\n");
+    fault(
+        &["read", &listing, "-o", &listing],
+        74,
+        &["the listing itself"],
+    );
+    fault(
+        &["read", &listing, "-o", "no/such/folder"],
+        74,
+        &["no/such/folder"],
+    );
+    fault(&["read", "no/such", "-o", &image], 66, &["no such file"]);
+    fault(&["read", "/dev/zero", "-o", &image], 66, &["at most"]);
+    fault(&["read", &listing], 64, &["-o"]);
+    fault(&["read", "-o", &image], 64, &["a listing"]);
+    fault(&["read", &listing, &listing], 64, &["given twice"]);
+    fault(&["read", &listing, "--start", "1"], 64, &["--start"]);
+    fault(
+        &["replay", &listing, "--size", "1"],
+        64,
+        &["--size is for a listing"],
+    );
+}
+
 #[test]
 fn help_is_at_hand() {
     for words in [&["--help"][..], &["replay", "--help"], &["bench", "-h"]] {
@@ -204,6 +278,8 @@ fn help_is_at_hand() {
             "--codes",
             "--budget",
             "--registers",
+            "desk read LISTING",
+            "--listing",
             "exit status",
         ] {
             assert!(output.contains(says));

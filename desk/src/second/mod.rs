@@ -11,6 +11,7 @@ pub mod arithmetic;
 pub mod fetch;
 mod flow;
 pub mod letter;
+pub mod listing;
 pub mod machine;
 pub mod pipeline;
 pub mod plain;
