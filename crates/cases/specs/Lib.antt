@@ -8,6 +8,7 @@ pub mod Bounds
 pub mod HostEdge
 pub mod Promises
 pub mod Program
+pub mod Listings
 pub mod Single
 pub mod Wrong
 pub mod Edge

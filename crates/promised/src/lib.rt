@@ -7,9 +7,12 @@ use machine::Pipeline;
 use machine::REGISTERS;
 ghost use mathlib.Core.List.{[]};
 ghost use Rattle.machine.specs.Runs.{plainAnswer, pipeAnswer};
+ghost use Rattle.listing.specs.Reading.{answered};
 ghost use Rattle.edge.specs.Edge.{edge};
+ghost use Rattle.edge.specs.Listings.{listingEdge};
 ghost use Rattle.together.specs.Both.{startOf, bothAnswer};
 ghost use Rattle.cases.specs.Promises.{Fits, fetching, plain-start, plain-step, plain-run};
+ghost use Rattle.cases.specs.Listings.{listing-read, edge-listing};
 ghost use Rattle.cases.specs.Program.{report-image, write-report};
 ghost use Rattle.cases.specs.Promises.{pipe-start, pipe-clock, pipe-run, pipe-run-unlogged, host-edge, run-both};
 
@@ -131,4 +134,17 @@ fn write_report(number: u64, end: Pipeline, out: &mut [u8; 652]) -> usize
     ensures { λ r. ⌜ Fits write-report (number, end, now (out .entry)) (r, now (out .exit)) ⌝ }
 {
     report::write_report(number, end, out)
+}
+
+fn listing_read(text: &[u8], memory: &mut [u8]) -> listing::Answer
+    ensures { λ r. ⌜ Fits listing-read (now (text .entry), now (memory .entry)) (answered r (now (memory .exit))) ⌝ }
+{
+    listing::read(text, memory)
+}
+
+fn edge_listing(text: &[u8], memory: &mut [u8], fault: &mut [u8]) -> u64
+    ensures { λ r. ⌜ Fits edge-listing (now (text .entry), now (memory .entry), now (fault .entry))
+        (listingEdge r (now (memory .exit)) (now (fault .exit))) ⌝ }
+{
+    edge::y86_read_listing(text, memory, fault)
 }
