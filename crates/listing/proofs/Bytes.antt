@@ -25,7 +25,8 @@ module _ (m₀ m : List ℕ) (k : ℕ) (h : Clears m₀ m k) where
   pub clears-more : k < length m → Clears m₀ (set m k 0) (k + 1)
   clears-more lt =
       record {
-        so-far = ap (λ (n : ℕ). take n (set m k 0)) (add-one k) ∙ (take-suc-set m k 0 lt ∙ (ap (λ (l : List ℕ). l ++ 0 ∷ []) (h .so-far) ∙ replicate-append-replicate k 1 0));
+        so-far = ap (λ (n : ℕ). take n (set m k 0)) (add-one k) ∙ (take-suc-set m k 0 lt ∙ (ap (λ (l : List ℕ). l ++ 0 ∷ []) (h .so-far)
+            ∙ replicate-append-replicate k 1 0));
         long = length-set m k 0 ∙ h .long;
         within = omega (arith, h .long);
       }

@@ -24,7 +24,8 @@ module _ (text : Text) (at end : ℕ) (e : end ≡ at + length (before lineFeed 
   pub rest-is : end < length text → drop (end + 1) text ≡ behind lineFeed (drop at text)
   rest-is h =
       let p : end + 1 ≡ at + (length (before lineFeed (drop at text)) + 1) = omega arith in
-      ap (λ (n : ℕ). drop n text) p ∙ (sym (drop-drop (length (before lineFeed (drop at text)) + 1) at text) ∙ behind-dropped lineFeed (drop at text) (is-ended h))
+      ap (λ (n : ℕ). drop n text) p ∙ (sym (drop-drop (length (before lineFeed (drop at text)) + 1) at text)
+      ∙ behind-dropped lineFeed (drop at text) (is-ended h))
 
 -- THE LOOP: what is judged of the text is what is judged from here on
 pub record Judges (size : ℕ) (text : Text) (at passed free : ℕ) : Type 0 where
@@ -46,20 +47,24 @@ module _ (size : ℕ) (text : Text) (at passed free : ℕ) (h : Judges size text
         let d = drop-cons text at 0 lt in
         let p : has lineFeed (drop at text) ≡ false = has-nowhere lineFeed (drop at text) (omega (arith, length-drop at text)) in
         sym (h .rest
-        ∙ (ap (λ (t : Text). judged size free (passed + 1) (lines t)) d ∙ judged-last size free (passed + 1) (getD text at 0) (drop (suc at) text) (ap (has lineFeed) (sym d) ∙ p)))
+        ∙ (ap (λ (t : Text). judged size free (passed + 1) (lines t)) d
+        ∙ judged-last size free (passed + 1) (getD text at 0) (drop (suc at) text) (ap (has lineFeed) (sym d) ∙ p)))
 
     module _ (q : end < length text) (k : Checked) (ek : k ≡ fault size free (recordOf (take (end - at) (drop at text)))) where
       by-line : verdict size text ≡ goesOn k (passed + 1) (λ next. judged size next (passed + 1 + 1) (lines (drop (end + 1) text)))
       by-line =
           h .rest
           ∙ (judged-first size free (passed + 1) (drop at text) (is-ended text at end e q)
-          ∙ (ap (λ (t : Text). goesOn (fault size free (recordOf t)) (passed + 1) (λ next. judged size next (passed + 1 + 1) (lines (behind lineFeed (drop at text))))) (sym (line-is text at end e))
-          ∙ (ap (λ (t : Text). goesOn (fault size free (recordOf (take (end - at) (drop at text)))) (passed + 1) (λ next. judged size next (passed + 1 + 1) (lines t))) (sym (rest-is text at end e q))
+          ∙ (ap (λ (t : Text). goesOn (fault size free (recordOf t)) (passed + 1) (λ next. judged size next (passed + 1 + 1) (lines (behind lineFeed
+          (drop at text))))) (sym (line-is text at end e))
+          ∙ (ap (λ (t : Text). goesOn (fault size free (recordOf (take (end - at) (drop at text)))) (passed + 1) (λ next. judged size next
+          (passed + 1 + 1) (lines t))) (sym (rest-is text at end e q))
           ∙ ap (λ (x : Checked). goesOn x (passed + 1) (λ next. judged size next (passed + 1 + 1) (lines (drop (end + 1) text)))) (sym ek))))
 
       pub wrong-line : (kind : Kind) → k ≡ wrong kind → faulty (passed + 1) kind ≡ verdict size text
       unfolding goesOn
-      wrong-line kind w = sym (by-line ∙ ap (λ (x : Checked). goesOn x (passed + 1) (λ next. judged size next (passed + 1 + 1) (lines (drop (end + 1) text)))) w)
+      wrong-line kind w = sym (by-line ∙ ap (λ (x : Checked). goesOn x (passed + 1) (λ next. judged size next (passed + 1 + 1) (lines (drop
+          (end + 1) text)))) w)
 
       pub judges-more : (next : ℕ) → k ≡ right next → Judges size text (end + 1) (passed + 1) next
       unfolding goesOn

@@ -15,7 +15,8 @@ use Rattle.text.specs.HexLaws.{hexBytes-length}
 use Rattle.machine.specs.Memory.{Memory}
 use Rattle.machine.specs.Runs.{sizeRefused}
 use Rattle.listing.specs.Grammar.{Record, addressOf, bytesOf, endOf, laid, imageOf}
-use Rattle.listing.specs.Reading.{Kind, Reading, form, right, good, faulty, Answer, refused, readAs, recordOf, records, fault, judged, verdict, answered, done, listed}
+use Rattle.listing.specs.Reading.{Kind, Reading, form, right, good, faulty, Answer, refused, readAs, recordOf, records, fault, judged, verdict}
+use Rattle.listing.specs.Reading.{answered, done, listed}
 use Rattle.listing.specs.ReadingLaws.{judged-first, judged-last, records-first, went-on, Fine, fine, short-address}
 use Rattle.listing.proofs.Judgement.{line-is, is-ended, rest-is}
 
@@ -73,9 +74,11 @@ module _ (text : Text) (m₀ m : Memory) (at : ℕ) (h : Lays text m₀ m at) wh
             let z : _≡_ {A = ℕ} 0 1 = cc in
             absurd (omega arith)
 
-    goes : (next : ℕ) × (fault (length m₀) (h .free) (recordOf (before lineFeed (drop at text))) ≡ right next) × (judged (length m₀) next (h .number + 1) (lines (behind lineFeed (drop at text))) ≡ good)
+    goes : (next : ℕ) × (fault (length m₀) (h .free) (recordOf (before lineFeed (drop at text))) ≡ right next) × (judged (length m₀) next
+        (h .number + 1) (lines (behind lineFeed (drop at text))) ≡ good)
     goes =
-        went-on (fault (length m₀) (h .free) (recordOf (before lineFeed (drop at text)))) (h .number) (λ next. judged (length m₀) next (h .number + 1) (lines (behind lineFeed (drop at text))))
+        went-on (fault (length m₀) (h .free) (recordOf (before lineFeed (drop at text)))) (h .number) (λ next. judged (length m₀) next (h .number + 1)
+        (lines (behind lineFeed (drop at text))))
         (sym (judged-first (length m₀) (h .free) (h .number) (drop at text) (is-ended text at end e lays-ended)) ∙ h .still)
 
     pub lays-fits : (length (recordOf (take (end - at) (drop at text)) .address) ≤ 16) × (endOf (recordOf (take (end - at) (drop at text))) ≤ length m)

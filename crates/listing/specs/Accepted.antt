@@ -14,7 +14,8 @@ use Rattle.text.specs.PartsLaws.{parted, has-joined, has-before, before-whole, 
 use Rattle.text.specs.Hex.{isHex, allHex}
 use Rattle.text.specs.HexLaws.{hex-without}
 use Rattle.listing.specs.Grammar.{Remark, none, some, Record, remarked, line, written, addressOf, endOf, WellFormed, Listing, end, more}
-use Rattle.listing.specs.Reading.{Checked, right, good, recordOf, records, lowestKind, missing, malformed, miscounted, inPlace, fault, checked, goesOn, judged, verdict}
+use Rattle.listing.specs.Reading.{Checked, right, good, recordOf, records, lowestKind, missing, malformed, miscounted, inPlace, fault, checked, goesOn}
+use Rattle.listing.specs.Reading.{judged, verdict}
 use Rattle.listing.specs.ReadingLaws.{ended, judged-first, judged-last, records-first, went-on, Fine, fine, short-address}
 
 abbrev pub Accepted : ℕ → Text → Type 0
@@ -131,7 +132,8 @@ line-read r w =
     let p = rest-read (r .bytes) (r .remark) (hex-without tab no-tab (r .bytes) (w .bytes-hex)) in
     let e : behind tab (r .address ++ tab ∷ rest) ≡ rest = behind-joined tab (r .address) rest ha in
     let f : before tab (behind tab (r .address ++ tab ∷ rest)) ≡ r .bytes = ap (before tab) e ∙ p .0 in
-    let g : cond (has tab (behind tab (r .address ++ tab ∷ rest))) (some (behind tab (behind tab (r .address ++ tab ∷ rest)))) none ≡ r .remark = ap (λ (t : Text). cond (has tab t) (some (behind tab t)) none) e ∙ p .1 in
+    let g : cond (has tab (behind tab (r .address ++ tab ∷ rest))) (some (behind tab (behind tab (r .address ++ tab ∷ rest)))) none ≡ r .remark = ap (λ
+    (t : Text). cond (has tab t) (some (behind tab t)) none) e ∙ p .1 in
     λ i. record { address = before-joined tab (r .address) rest ha i; bytes = f i; remark = g i }
 
 -- a remark of a line without a line feed has none
@@ -159,14 +161,18 @@ accepted (suc n) (x ∷ t) size free number h g = go (has lineFeed (x ∷ t)) re
         let l = before lineFeed (x ∷ t) in
         let m = behind lineFeed (x ∷ t) in
         let shorter : length m ≤ n = omega (arith, simp length-append at (ap length whole)) in
-        let on = went-on (fault size free (recordOf l)) number (λ next. judged size next (number + 1) (lines m)) (sym (judged-first size free number (x ∷ t) e) ∙ g) in
+        let on = went-on (fault size free (recordOf l)) number (λ next. judged size next (number + 1) (lines m)) (sym (judged-first size free number
+        (x ∷ t) e) ∙ g) in
         let f = fine size free (recordOf l) (on .0) (on .1) in
         let made = line-written l (has-tab l (f .formed)) in
         let inner = ih m size (endOf (recordOf l)) (number + 1) shorter (rw (f .then) (on .2)) in
         let feedless : has lineFeed (line (recordOf l)) ≡ false = rw made (has-before lineFeed (x ∷ t)) in
         let w = well (recordOf l) (f .formed) (f .counted) (remark-feedless (recordOf l) feedless) in
-        rw (records-first (x ∷ t) e)
-        (more w (f .above) (f .within) (inner .0), whole ∙ (ap (λ (u : Text). u ++ lineFeed ∷ m) (sym made) ∙ ap (λ (u : Text). line (recordOf l) ++ lineFeed ∷ u) (inner .1)))
+        rw (records-first (x ∷ t) e) (
+          more w (f .above) (f .within) (inner .0),
+          whole ∙ (ap (λ (u : Text). u ++ lineFeed ∷ m) (sym made)
+              ∙ ap (λ (u : Text). line (recordOf l) ++ lineFeed ∷ u) (inner .1)),
+        )
     go false e ih =
         let v = judged-last size free number x t e in
         let z : _≡_ {A = ℕ} 0 1 = cc in
@@ -184,7 +190,8 @@ listing-judged number end = (refl, refl)
 listing-judged {size} {free} number (more {r = r} {rs = rs} w above within rest) =
     let inner = listing-judged (number + 1) rest in
     let ls = lines-joined (line r) (written rs) (on-one-line r w) in
-    let k : checked size free (line r ++ lineFeed ∷ []) ≡ right (endOf r) = ended (line r) (on-one-line r w) size free ∙ (ap (fault size free) (line-read r w) ∙ no-fault size free r w above within) in
+    let k : checked size free (line r ++ lineFeed ∷ []) ≡ right (endOf r) = ended (line r) (on-one-line r w) size free
+    ∙ (ap (fault size free) (line-read r w) ∙ no-fault size free r w above within) in
     let one : recordOf (before lineFeed (line r ++ lineFeed ∷ [])) ≡ r = ap recordOf (before-joined lineFeed (line r) [] (on-one-line r w)) ∙ line-read r w in
     (rw ls (rw k (inner .0)), rw ls (rw (one, inner .1)))
 

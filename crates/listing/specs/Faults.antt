@@ -8,7 +8,8 @@ use native.Mathlib.Omega.{arith}
 use lib.Dec.{ltb}
 use Rattle.text.specs.Parts.{Text, has, before, lineFeed, lines}
 use Rattle.listing.specs.Grammar.{Record, addressOf, endOf}
-use Rattle.listing.specs.Reading.{Kind, form, count, order, beyond, kindNumber, Checked, right, wrong, Reading, good, faulty, recordOf, lowestKind, malformed, miscounted, inPlace, fault, checked, goesOn, judged, verdict}
+use Rattle.listing.specs.Reading.{Kind, form, count, order, beyond, kindNumber, Checked, right, wrong, Reading, good, faulty, recordOf, lowestKind}
+use Rattle.listing.specs.Reading.{malformed, miscounted, inPlace, fault, checked, goesOn, judged, verdict}
 
 -- the test of each kind
 unfoldable pub holds : (size free : ℕ) → Record → Kind → Bool
@@ -93,8 +94,10 @@ lowest-wins size free r k h =
 -- a line that is right
 pub data FirstFault (size : ℕ) : (free m : ℕ) → List Text → ℕ → Kind → Type 0 where
   unended : {free m : ℕ} {l : Text} {ls : List Text} → has lineFeed l ≡ false → FirstFault size free m (l ∷ ls) m form
-  here : {free m : ℕ} {l : Text} {ls : List Text} {k : Kind} → has lineFeed l ≡ true → Lowest size free (recordOf (before lineFeed l)) k → FirstFault size free m (l ∷ ls) m k
-  later : {free m next n : ℕ} {l : Text} {ls : List Text} {k : Kind} → checked size free l ≡ right next → FirstFault size next (m + 1) ls n k → FirstFault size free m (l ∷ ls) n k
+  here : {free m : ℕ} {l : Text} {ls : List Text} {k : Kind} → has lineFeed l ≡ true → Lowest size free (recordOf (before lineFeed l)) k
+      → FirstFault size free m (l ∷ ls) m k
+  later : {free m next n : ℕ} {l : Text} {ls : List Text} {k : Kind} → checked size free l ≡ right next → FirstFault size next (m + 1) ls n k
+      → FirstFault size free m (l ∷ ls) n k
 
 -- what is refused has such a line, with that number and kind
 at-once : (size free m : ℕ) (l : Text) (ls : List Text) (k : Kind) → checked size free l ≡ wrong k → FirstFault size free m (l ∷ ls) m k

@@ -67,4 +67,5 @@ pub record WellFormed (r : Record) : Type 0 where
 -- "Lines ascend, without overlap, and fit in the lent memory" of this size; free is the first address behind the last byte given, 0 at first
 pub data Listing (size : ℕ) : ℕ → List Record → Type 0 where
   end : {free : ℕ} → Listing size free []
-  more : {free : ℕ} {r : Record} {rs : List Record} → WellFormed r → free ≤ addressOf r → endOf r ≤ size → Listing size (endOf r) rs → Listing size free (r ∷ rs)
+  more : {free : ℕ} {r : Record} {rs : List Record} → WellFormed r → free ≤ addressOf r → endOf r ≤ size → Listing size (endOf r) rs
+      → Listing size free (r ∷ rs)

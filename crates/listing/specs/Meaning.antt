@@ -56,7 +56,8 @@ lies : {size free : ℕ} {rs : List Record} {s : Record} → Listing size free r
     → (k : ℕ) → k < length (bytesOf s) → getD (laid rs m) (addressOf s + k) 0 ≡ getD (bytesOf s) k 0
 unfolding laid endOf
 lies end n m l k h = absurd (List·Memᴰ·not-nil n)
-lies {size} {s = s} (more {r = r} {rs = rs} w above within rest) n m l k h = go (List·Memᴰ·cases-cons n) (λ q. lies rest q (sets m (addressOf r) (bytesOf r)) (length-sets m (addressOf r) (bytesOf r) ∙ l) k h)
+lies {size} {s = s} (more {r = r} {rs = rs} w above within rest) n m l k h = go (List·Memᴰ·cases-cons n) (λ q. lies rest q (sets m (addressOf r)
+    (bytesOf r)) (length-sets m (addressOf r) (bytesOf r) ∙ l) k h)
   where
     u : Memory
     u = sets m (addressOf r) (bytesOf r)

@@ -11,7 +11,8 @@ use Rattle.laws.specs.Tests.{neither}
 use Rattle.text.specs.Parts.{Text, has, before, behind, lineFeed, lines}
 use Rattle.text.specs.PartsLaws.{has-joined, has-before, before-joined, lines-first, lines-last}
 use Rattle.listing.specs.Grammar.{Record, addressOf, endOf}
-use Rattle.listing.specs.Reading.{Kind, Checked, Reading, form, right, wrong, good, faulty, recordOf, records, lowestKind, missing, malformed, miscounted, inPlace, fault, checked, goesOn, judged}
+use Rattle.listing.specs.Reading.{Kind, Checked, Reading, form, right, wrong, good, faulty, recordOf, records, lowestKind, missing, malformed}
+use Rattle.listing.specs.Reading.{miscounted, inPlace, fault, checked, goesOn, judged}
 
 -- ONE LINE
 -- a line that is ended
@@ -24,7 +25,8 @@ pub judged-first : (size free n : ℕ) (t : Text) → has lineFeed t ≡ true
     → judged size free n (lines t) ≡ goesOn (fault size free (recordOf (before lineFeed t))) n (λ next. judged size next (n + 1) (lines (behind lineFeed t)))
 unfolding judged
 judged-first size free n t h =
-    rw (lines-first t h) (ap (λ (x : Checked). goesOn x n (λ next. judged size next (n + 1) (lines (behind lineFeed t)))) (ended (before lineFeed t) (has-before lineFeed t) size free))
+    rw (lines-first t h) (ap (λ (x : Checked). goesOn x n (λ next. judged size next (n + 1) (lines (behind lineFeed t)))) (ended (before lineFeed t)
+    (has-before lineFeed t) size free))
 
 pub records-first : (t : Text) → has lineFeed t ≡ true → records (lines t) ≡ recordOf (before lineFeed t) ∷ records (lines (behind lineFeed t))
 unfolding records

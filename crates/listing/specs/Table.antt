@@ -13,7 +13,8 @@ use Rattle.text.specs.Hex.{isHex, hexValue, allHex, hexFrom, hexNumber, hexByte
 use Rattle.machine.specs.Memory.{Memory}
 use Rattle.machine.specs.Runs.{sizeRefused}
 use Rattle.listing.specs.Grammar.{addressOf, bytesOf, endOf, laid, imageOf}
-use Rattle.listing.specs.Reading.{kindNumber, recordOf, records, missing, malformed, miscounted, inPlace, fault, lowestKind, checked, goesOn, judged, verdict, good, faulty, Answer, refused, readAs, answered, Answered, done, listed}
+use Rattle.listing.specs.Reading.{kindNumber, recordOf, records, missing, malformed, miscounted, inPlace, fault, lowestKind, checked, goesOn, judged}
+use Rattle.listing.specs.Reading.{verdict, good, faulty, Answer, refused, readAs, answered, Answered, done, listed}
 
 -- a text, read into memory whose bytes are all 7; the refusal, the line and the kind, each 0 where there is none; and memory afterwards
 pub record Case : Type 0 where

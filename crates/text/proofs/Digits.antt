@@ -57,11 +57,25 @@ module _ (c : ℕ) where
 
   pub a-to-f : 97 ≤ c → c < 103 → c - 87 ≡ hexValue c
   unfolding hexValue
-  a-to-f h k = cc (le-leb 48 c (omega arith), lt-leb c 57 (omega arith), le-leb 65 c (omega arith), lt-leb c 70 (omega arith), le-leb 97 c h, le-leb c 102 (omega arith))
+  a-to-f h k = cc (
+    le-leb 48 c (omega arith),
+    lt-leb c 57 (omega arith),
+    le-leb 65 c (omega arith),
+    lt-leb c 70 (omega arith),
+    le-leb 97 c h,
+    le-leb c 102 (omega arith),
+  )
 
   pub behind-f : 103 ≤ c → 0 ≡ hexValue c
   unfolding hexValue
-  behind-f h = cc (le-leb 48 c (omega arith), lt-leb c 57 (omega arith), le-leb 65 c (omega arith), lt-leb c 70 (omega arith), le-leb 97 c (omega arith), lt-leb c 102 (omega arith))
+  behind-f h = cc (
+    le-leb 48 c (omega arith),
+    lt-leb c 57 (omega arith),
+    le-leb 65 c (omega arith),
+    lt-leb c 70 (omega arith),
+    le-leb 97 c (omega arith),
+    lt-leb c 102 (omega arith),
+  )
 
 -- ALL DIGITS: whether s is all digits rests on what follows its first k bytes
 pub record Tried (s : List ℕ) (k : ℕ) : Type 0 where

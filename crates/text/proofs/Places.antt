@@ -33,7 +33,8 @@ module _ (s : Text) (c k : ℕ) (h : Passed s c k) where
     pub passed-more : (getD s k 0 ≡ c → ⊥) → Passed s c (k + 1)
     unfolding before
     passed-more e =
-        let d : length (before c (drop k s)) ≡ suc (length (before c (drop (suc k) s))) = ap (λ (l : Text). length (before c l)) (drop-cons s k 0 lt) ∙ rw (ne-eqb (getD s k 0) c e) in
+        let d : length (before c (drop k s)) ≡ suc (length (before c (drop (suc k) s))) = ap (λ (l : Text). length (before c l)) (drop-cons s k 0 lt)
+        ∙ rw (ne-eqb (getD s k 0) c e) in
         record { before-rest = rw (add-one k) (omega (arith, h .before-rest)) }
 
 -- THE PARTS, where n is the place
@@ -56,5 +57,8 @@ module _ (c : ℕ) (t : Text) (n : ℕ) (h : n ≡ length (before c t)) where
 pub from-there : (c : ℕ) (t : Text) (at n : ℕ) → at ≤ length t → n ≡ length (before c (take (length t - at) (drop at t)))
     → (at + n ≡ at + length (before c (drop at t))) × (at + n ≤ length t)
 from-there c t at n h e =
-    let p : n ≡ length (before c (drop at t)) = e ∙ ap (λ (l : Text). length (before c l)) (take-all (length t - at) (drop at t) (omega (arith, length-drop at t))) in
+    let p : n ≡ length (before c (drop at t)) = e ∙ ap (λ (l : Text). length (before c l)) (take-all (length t - at) (drop at t) (omega (
+      arith,
+      length-drop at t,
+    ))) in
     (ap (λ (k : ℕ). at + k) p, omega (arith, before-shorter c (drop at t), length-drop at t))

@@ -19,7 +19,15 @@ clear-requires : tie.Need-clear-requires
 clear-requires c κs = search needs
 
 lay-requires : tie.Need-lay-requires
-lay-requires c κs = still-listing _ (c .before .before .before .before .before .before .before .before .before .before .before .before .args .memory .now) _ (c .before .before .before .before .before .before .before .before .before .size-refused .ensures) (c .before .before .before .before .before .before .before .before .if1 .left) _ (c .before .before .before .before .before .before .before .judge .ensures) _ (c .before .before .before .before .before .enum-told .given .1) (c .before .before .before .clear .ensures)
+lay-requires c κs =
+    let at-clear = c .before .before .before in
+    let at-enum-told = at-clear .before .before in
+    let at-judge = at-enum-told .before .before in
+    let at-if1 = at-judge .before in
+    let at-size-refused = at-if1 .before in
+    let at-args = at-size-refused .before .before .before in
+    still-listing _ (at-args .args .memory .now) _ (at-size-refused .size-refused .ensures) (at-if1 .if1 .left) _ (at-judge .judge .ensures) _
+    (at-enum-told .enum-told .given .1) (at-clear .clear .ensures)
 
 enum-known-reading : tie.Need-enum-known-reading
 enum-known-reading c = search needs
@@ -28,10 +36,23 @@ same-length : tie.Need-same-length
 same-length c = search needs
 
 returns-2 : tie.Need-returns-2
-returns-2 c = reads _ _ _ (c .before .before .before .before .before .before .before .before .before .before .before .before .size-refused .ensures) (c .before .before .before .before .before .before .before .before .before .before .before .if1 .left) _ (c .before .before .before .before .before .before .before .before .before .before .judge .ensures) _ _ (c .before .before .before .before .before .before .before .before .enum-told .given .1) (c .before .before .before .before .before .before .clear .ensures) (c .before .before .lay .ensures)
+returns-2 c =
+    let at-lay = c .before .before in
+    let at-clear = at-lay .before .before .before .before in
+    let at-enum-told = at-clear .before .before in
+    let at-judge = at-enum-told .before .before in
+    let at-if1 = at-judge .before in
+    let at-size-refused = at-if1 .before in
+    reads _ _ _ (at-size-refused .size-refused .ensures) (at-if1 .if1 .left) _ (at-judge .judge .ensures) _ _ (at-enum-told .enum-told .given .1)
+    (at-clear .clear .ensures) (at-lay .lay .ensures)
 
 returns-3 : tie.Need-returns-3
-returns-3 c = finds _ _ _ (c .before .before .before .before .before .size-refused .ensures) (c .before .before .before .before .if1 .left) _ (c .before .before .before .judge .ensures) _ _ (c .before .reading .given .1)
+returns-3 c =
+    let at-reading = c .before in
+    let at-judge = at-reading .before .before in
+    let at-if1 = at-judge .before in
+    let at-size-refused = at-if1 .before in
+    finds _ _ _ (at-size-refused .size-refused .ensures) (at-if1 .if1 .left) _ (at-judge .judge .ensures) _ _ (at-reading .reading .given .1)
 
 pub read-spec : {M : Type 1} → statement M
 read-spec =

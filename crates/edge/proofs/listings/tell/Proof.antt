@@ -34,7 +34,13 @@ same-length : tie.Need-same-length
 same-length c = search needs
 
 returns-3 : tie.Need-returns-3
-returns-3 c = tells-fault _ _ _ (c .before .before .before .before .before .before .before .before .before .before .answer2 .given .1) _ _ _ _ (c .before .before .before .before .before .before .before .reading .given .1) (c .before .before .before .before .before .kind-number .ensures) (c .before .before .write-words .ensures)
+returns-3 c =
+    let at-write-words = c .before .before in
+    let at-kind-number = at-write-words .before .before .before in
+    let at-reading = at-kind-number .before .before in
+    let at-answer2 = at-reading .before .before .before in
+    tells-fault _ _ _ (at-answer2 .answer2 .given .1) _ _ _ _ (at-reading .reading .given .1) (at-kind-number .kind-number .ensures)
+    (at-write-words .write-words .ensures)
 
 pub tell-spec : {M : Type 1} → statement M
 tell-spec =

@@ -13,7 +13,10 @@ read-requires : tie.Need-read-requires
 read-requires c κs = search needs
 
 tell-requires : tie.Need-tell-requires
-tell-requires c κs = block-of-16 _ _ _ (c .before .before .before .before .before .before .refusal .ensures) (c .before .before .before .before .before .if1 .left)
+tell-requires c κs =
+    let at-if1 = c .before .before .before .before .before in
+    let at-refusal = at-if1 .before in
+    block-of-16 _ _ _ (at-refusal .refusal .ensures) (at-if1 .if1 .left)
 
 same-length : tie.Need-same-length
 same-length c = search needs
@@ -22,7 +25,12 @@ same-length-2 : tie.Need-same-length-2
 same-length-2 c = search needs
 
 returns-2 : tie.Need-returns-2
-returns-2 c = listing-told _ _ _ _ (c .before .before .before .before .before .before .before .before .before .refusal .ensures) _ _ _ _ (c .before .before .before .before .before .before .before .before .if1 .left) (c .before .before .before .before .before .before .read .ensures) (c .before .before .tell .ensures)
+returns-2 c =
+    let at-tell = c .before .before in
+    let at-read = at-tell .before .before .before .before in
+    let at-if1 = at-read .before .before in
+    let at-refusal = at-if1 .before in
+    listing-told _ _ _ _ (at-refusal .refusal .ensures) _ _ _ _ (at-if1 .if1 .left) (at-read .read .ensures) (at-tell .tell .ensures)
 
 pub y86-read-listing-spec : {M : Type 1} → statement M
 y86-read-listing-spec =

@@ -16,22 +16,67 @@ is-missing-requires : tie.Need-is-missing-requires
 is-missing-requires c κs = search needs
 
 returns : tie.Need-returns
-returns c = no-address _ _ _ _ _ _ (c .before .before .before .before .part-before .ensures) (c .before .before .before .part-behind .ensures) (c .before .before .part-before2 .ensures) _ (c .before .is-missing .ensures) (c .if1 .taken)
+returns c =
+    let at-is-missing = c .before in
+    let at-part-before2 = at-is-missing .before in
+    let at-part-behind = at-part-before2 .before in
+    let at-part-before = at-part-behind .before in
+    no-address _ _ _ _ _ _ (at-part-before .part-before .ensures) (at-part-behind .part-behind .ensures) (at-part-before2 .part-before2 .ensures) _
+    (at-is-missing .is-missing .ensures) (c .if1 .taken)
 
 is-missing-requires-2 : tie.Need-is-missing-requires-2
 is-missing-requires-2 c κs = search needs
 
 returns-2 : tie.Need-returns-2
-returns-2 c = no-bytes _ _ _ _ _ _ (c .before .before .before .before .before .before .part-before .ensures) (c .before .before .before .before .before .part-behind .ensures) (c .before .before .before .before .part-before2 .ensures) _ (c .before .before .before .is-missing .ensures) (c .before .before .if1 .left) _ (c .before .is-missing2 .ensures) (c .if2 .taken)
+returns-2 c =
+    let at-is-missing2 = c .before in
+    let at-if1 = at-is-missing2 .before in
+    let at-is-missing = at-if1 .before in
+    let at-part-before2 = at-is-missing .before in
+    let at-part-behind = at-part-before2 .before in
+    let at-part-before = at-part-behind .before in
+    no-bytes _ _ _ _ _ _ (at-part-before .part-before .ensures) (at-part-behind .part-behind .ensures) (at-part-before2 .part-before2 .ensures) _
+    (at-is-missing .is-missing .ensures) (at-if1 .if1 .left) _ (at-is-missing2 .is-missing2 .ensures) (c .if2 .taken)
 
 returns-3 : tie.Need-returns-3
-returns-3 c = long-address _ _ _ _ _ _ (c .before .before .before .before .before .before .before .part-before .ensures) (c .before .before .before .before .before .before .part-behind .ensures) (c .before .before .before .before .before .part-before2 .ensures) _ (c .before .before .before .before .is-missing .ensures) (c .before .before .before .if1 .left) _ (c .before .before .is-missing2 .ensures) (c .before .if2 .left) (c .if3 .taken)
+returns-3 c =
+    let at-if2 = c .before in
+    let at-is-missing2 = at-if2 .before in
+    let at-if1 = at-is-missing2 .before in
+    let at-is-missing = at-if1 .before in
+    let at-part-before2 = at-is-missing .before in
+    let at-part-behind = at-part-before2 .before in
+    let at-part-before = at-part-behind .before in
+    long-address _ _ _ _ _ _ (at-part-before .part-before .ensures) (at-part-behind .part-behind .ensures) (at-part-before2 .part-before2 .ensures) _
+    (at-is-missing .is-missing .ensures) (at-if1 .if1 .left) _ (at-is-missing2 .is-missing2 .ensures) (at-if2 .if2 .left) (c .if3 .taken)
 
 returns-4 : tie.Need-returns-4
-returns-4 c = odd _ _ _ _ _ _ (c .before .before .before .before .before .before .before .before .part-before .ensures) (c .before .before .before .before .before .before .before .part-behind .ensures) (c .before .before .before .before .before .before .part-before2 .ensures) _ (c .before .before .before .before .before .is-missing .ensures) (c .before .before .before .before .if1 .left) _ (c .before .before .before .is-missing2 .ensures) (c .before .before .if2 .left) (c .before .if3 .left) (c .if4 .taken)
+returns-4 c =
+    let at-if3 = c .before in
+    let at-if2 = at-if3 .before in
+    let at-is-missing2 = at-if2 .before in
+    let at-if1 = at-is-missing2 .before in
+    let at-is-missing = at-if1 .before in
+    let at-part-before2 = at-is-missing .before in
+    let at-part-behind = at-part-before2 .before in
+    let at-part-before = at-part-behind .before in
+    odd _ _ _ _ _ _ (at-part-before .part-before .ensures) (at-part-behind .part-behind .ensures) (at-part-before2 .part-before2 .ensures) _
+    (at-is-missing .is-missing .ensures) (at-if1 .if1 .left) _ (at-is-missing2 .is-missing2 .ensures) (at-if2 .if2 .left) (at-if3 .if3 .left) (c .if4 .taken)
 
 returns-5 : tie.Need-returns-5
-returns-5 c = many _ _ _ _ _ _ (c .before .before .before .before .before .before .before .before .before .part-before .ensures) (c .before .before .before .before .before .before .before .before .part-behind .ensures) (c .before .before .before .before .before .before .before .part-before2 .ensures) _ (c .before .before .before .before .before .before .is-missing .ensures) (c .before .before .before .before .before .if1 .left) _ (c .before .before .before .before .is-missing2 .ensures) (c .before .before .before .if2 .left) (c .before .before .if3 .left) (c .before .if4 .left) (c .if5 .taken)
+returns-5 c =
+    let at-if4 = c .before in
+    let at-if3 = at-if4 .before in
+    let at-if2 = at-if3 .before in
+    let at-is-missing2 = at-if2 .before in
+    let at-if1 = at-is-missing2 .before in
+    let at-is-missing = at-if1 .before in
+    let at-part-before2 = at-is-missing .before in
+    let at-part-behind = at-part-before2 .before in
+    let at-part-before = at-part-behind .before in
+    many _ _ _ _ _ _ (at-part-before .part-before .ensures) (at-part-behind .part-behind .ensures) (at-part-before2 .part-before2 .ensures) _
+    (at-is-missing .is-missing .ensures) (at-if1 .if1 .left) _ (at-is-missing2 .is-missing2 .ensures) (at-if2 .if2 .left) (at-if3 .if3 .left)
+    (at-if4 .if4 .left) (c .if5 .taken)
 
 number-requires : tie.Need-number-requires
 number-requires c κs = search needs
@@ -40,7 +85,21 @@ in-place-requires : tie.Need-in-place-requires
 in-place-requires c κs = search needs
 
 returns-6 : tie.Need-returns-6
-returns-6 c = then-placed _ _ _ _ _ _ (c .before .before .before .before .before .before .before .before .before .before .before .part-before .ensures) (c .before .before .before .before .before .before .before .before .before .before .part-behind .ensures) (c .before .before .before .before .before .before .before .before .before .part-before2 .ensures) _ (c .before .before .before .before .before .before .before .before .is-missing .ensures) (c .before .before .before .before .before .before .before .if1 .left) _ (c .before .before .before .before .before .before .is-missing2 .ensures) (c .before .before .before .before .before .if2 .left) (c .before .before .before .before .if3 .left) (c .before .before .before .if4 .left) (c .before .before .if5 .left) _ _ (c .before .number .ensures) (c .in-place .ensures)
+returns-6 c =
+    let at-number = c .before in
+    let at-if5 = at-number .before in
+    let at-if4 = at-if5 .before in
+    let at-if3 = at-if4 .before in
+    let at-if2 = at-if3 .before in
+    let at-is-missing2 = at-if2 .before in
+    let at-if1 = at-is-missing2 .before in
+    let at-is-missing = at-if1 .before in
+    let at-part-before2 = at-is-missing .before in
+    let at-part-behind = at-part-before2 .before in
+    let at-part-before = at-part-behind .before in
+    then-placed _ _ _ _ _ _ (at-part-before .part-before .ensures) (at-part-behind .part-behind .ensures) (at-part-before2 .part-before2 .ensures) _
+    (at-is-missing .is-missing .ensures) (at-if1 .if1 .left) _ (at-is-missing2 .is-missing2 .ensures) (at-if2 .if2 .left) (at-if3 .if3 .left)
+    (at-if4 .if4 .left) (at-if5 .if5 .left) _ _ (at-number .number .ensures) (c .in-place .ensures)
 
 pub check-spec : {M : Type 1} → statement M
 check-spec =

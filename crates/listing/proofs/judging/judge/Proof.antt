@@ -43,7 +43,15 @@ add-t17 : tie.Need-add-t17 Inv-loop μ-loop
 add-t17 c = omega (arith, c .before .before .before .before .before .before .before .before .loop .inv .few)
 
 returns-2 : tie.Need-returns-2 Inv-loop μ-loop
-returns-2 c = wrong-line _ _ _ _ _ (c .before .before .before .before .before .before .before .before .loop .inv) _ (c .before .before .before .before .before .before .place-from .ensures .0) (c .before .before .before .before .before .before .before .loop-test .taken) (c .before .before .before .before .before .if1 .left) _ (c .before .before .before .check .ensures) _ (c .before .checked .given .1)
+returns-2 c =
+    let at-checked = c .before in
+    let at-check = at-checked .before .before in
+    let at-if1 = at-check .before .before in
+    let at-place-from = at-if1 .before in
+    let at-loop-test = at-place-from .before in
+    let at-loop = at-loop-test .before in
+    wrong-line _ _ _ _ _ (at-loop .loop .inv) _ (at-place-from .place-from .ensures .0) (at-loop-test .loop-test .taken) (at-if1 .if1 .left) _
+    (at-check .check .ensures) _ (at-checked .checked .given .1)
 
 enum-known-checked-2 : tie.Need-enum-known-checked-2 Inv-loop μ-loop
 enum-known-checked-2 c = search needs
@@ -58,7 +66,15 @@ loop-less : tie.Need-loop-less Inv-loop μ-loop
 loop-less c = omega (arith, c .before .before .before .before .before .before .place-from .ensures .0)
 
 loop-again : tie.Need-loop-again Inv-loop μ-loop
-loop-again c = judges-more _ _ _ _ _ (c .before .before .before .before .before .before .before .before .loop .inv) _ (c .before .before .before .before .before .before .place-from .ensures .0) (c .before .before .before .before .before .before .before .loop-test .taken) (c .before .before .before .before .before .if1 .left) _ (c .before .before .before .check .ensures) _ (c .before .checked2 .given .1)
+loop-again c =
+    let at-checked2 = c .before in
+    let at-check = at-checked2 .before .before in
+    let at-if1 = at-check .before .before in
+    let at-place-from = at-if1 .before in
+    let at-loop-test = at-place-from .before in
+    let at-loop = at-loop-test .before in
+    judges-more _ _ _ _ _ (at-loop .loop .inv) _ (at-place-from .place-from .ensures .0) (at-loop-test .loop-test .taken) (at-if1 .if1 .left) _
+    (at-check .check .ensures) _ (at-checked2 .checked2 .given .1)
 
 returns-3 : tie.Need-returns-3 Inv-loop μ-loop
 returns-3 c = judges-all _ _ _ _ _ (c .before .loop .inv) (c .loop-test .left)

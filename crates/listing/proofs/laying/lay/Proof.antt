@@ -27,16 +27,29 @@ part-lay-line-end : tie.Need-part-lay-line-end Inv-loop μ-loop
 part-lay-line-end c = omega (arith, c .place-from .ensures .1)
 
 lay-line-requires : tie.Need-lay-line-requires Inv-loop μ-loop
-lay-line-requires c κs = lays-fits _ _ _ _ (c .before .before .before .before .loop .inv) _ (c .before .before .place-from .ensures .0) (c .before .before .before .loop-test .taken)
+lay-line-requires c κs =
+    let at-place-from = c .before .before in
+    let at-loop-test = at-place-from .before in
+    let at-loop = at-loop-test .before in
+    lays-fits _ _ _ _ (at-loop .loop .inv) _ (at-place-from .place-from .ensures .0) (at-loop-test .loop-test .taken)
 
 add-at : tie.Need-add-at Inv-loop μ-loop
-add-at c = let h = lays-ended _ _ _ _ (c .before .before .before .before .before .before .before .loop .inv) _ (c .before .before .before .before .before .place-from .ensures .0) (c .before .before .before .before .before .before .loop-test .taken) in omega (arith, h)
+add-at c =
+    let at-place-from = c .before .before .before .before .before in
+    let at-loop-test = at-place-from .before in
+    let at-loop = at-loop-test .before in
+    let h = lays-ended _ _ _ _ (at-loop .loop .inv) _ (at-place-from .place-from .ensures .0) (at-loop-test .loop-test .taken) in omega (arith, h)
 
 loop-less : tie.Need-loop-less Inv-loop μ-loop
 loop-less c = omega (arith, c .before .before .before .before .before .place-from .ensures .0)
 
 loop-again : tie.Need-loop-again Inv-loop μ-loop
-loop-again c = lays-more _ _ _ _ (c .before .before .before .before .before .before .before .loop .inv) _ (c .before .before .before .before .before .place-from .ensures .0) (c .before .before .before .before .before .before .loop-test .taken) _ (c .before .before .lay-line .ensures)
+loop-again c =
+    let at-lay-line = c .before .before in
+    let at-place-from = at-lay-line .before .before .before in
+    let at-loop-test = at-place-from .before in
+    let at-loop = at-loop-test .before in
+    lays-more _ _ _ _ (at-loop .loop .inv) _ (at-place-from .place-from .ensures .0) (at-loop-test .loop-test .taken) _ (at-lay-line .lay-line .ensures)
 
 same-length : tie.Need-same-length Inv-loop μ-loop
 same-length c = c .before .loop .inv .long

@@ -23,7 +23,11 @@ is-digit-requires : tie.Need-is-digit-requires Inv-loop μ-loop
 is-digit-requires c κs = search needs
 
 returns : tie.Need-returns Inv-loop μ-loop
-returns c = not-all _ _ (c .before .before .before .before .loop .inv) (c .before .before .before .loop-test .taken) _ (c .before .is-digit .ensures) (not-true _ (c .if1 .taken))
+returns c =
+    let at-is-digit = c .before in
+    let at-loop-test = at-is-digit .before .before in
+    let at-loop = at-loop-test .before in
+    not-all _ _ (at-loop .loop .inv) (at-loop-test .loop-test .taken) _ (at-is-digit .is-digit .ensures) (not-true _ (c .if1 .taken))
 
 add-k : tie.Need-add-k Inv-loop μ-loop
 add-k c = omega arith
@@ -32,7 +36,11 @@ loop-less : tie.Need-loop-less Inv-loop μ-loop
 loop-less c = omega arith
 
 loop-again : tie.Need-loop-again Inv-loop μ-loop
-loop-again c = tried-more _ _ (c .before .before .before .before .loop .inv) (c .before .before .before .loop-test .taken) _ (c .before .is-digit .ensures) (not-false _ (c .if1 .left))
+loop-again c =
+    let at-is-digit = c .before in
+    let at-loop-test = at-is-digit .before .before in
+    let at-loop = at-loop-test .before in
+    tried-more _ _ (at-loop .loop .inv) (at-loop-test .loop-test .taken) _ (at-is-digit .is-digit .ensures) (not-false _ (c .if1 .left))
 
 returns-2 : tie.Need-returns-2 Inv-loop μ-loop
 returns-2 c = all-tried _ _ (c .before .loop .inv) (c .loop-test .left)

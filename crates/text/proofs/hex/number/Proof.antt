@@ -38,7 +38,12 @@ loop-less : tie.Need-loop-less Inv-loop μ-loop
 loop-less c = omega arith
 
 loop-again : tie.Need-loop-again Inv-loop μ-loop
-loop-again c = counted-more _ _ _ (c .before .before .before .before .loop .inv) _ (c .before .before .before .loop-test .taken) (c .wide .ensures ∙ c .before .value .ensures .0) (omega (arith, c .before .value .ensures .1))
+loop-again c =
+    let at-value = c .before in
+    let at-loop-test = at-value .before .before in
+    let at-loop = at-loop-test .before in
+    counted-more _ _ _ (at-loop .loop .inv) _ (at-loop-test .loop-test .taken) (c .wide .ensures ∙ at-value .value .ensures .0)
+    (omega (arith, at-value .value .ensures .1))
 
 returns : tie.Need-returns Inv-loop μ-loop
 returns c = all-counted _ _ _ (c .before .loop .inv) (c .loop-test .left)

@@ -17,7 +17,9 @@ place-requires : tie.Need-place-requires
 place-requires c κs = search needs
 
 add-result : tie.Need-add-result
-add-result c = omega (arith, from-there (c .before .before .before .args .c) (c .before .before .before .args .s .now) (c .before .before .before .args .at) (c .place .result) (c .before .before .before .pre) (c .place .ensures) .1)
+add-result c =
+    let at-args = c .before .before .before in
+    omega (arith, from-there (at-args .args .c) (at-args .args .s .now) (at-args .args .at) (c .place .result) (at-args .pre) (c .place .ensures) .1)
 
 returns : tie.Need-returns
 returns c = from-there _ _ _ _ (c .before .before .before .pre) (c .place .ensures)
