@@ -38,9 +38,9 @@ fn in_place(address: u64, count: u64, free: u64, size: u64) -> Checked
 fn check(line: &[u8], free: u64, size: u64) -> Checked
     ensures { λ r. ⌜ r ≡ fault size free (recordOf (now (line .entry))) ⌝ }
 {
-    let address = parts::part_before(line, 9);
-    let rest = parts::part_behind(line, 9);
-    let bytes = parts::part_before(rest, 9);
+    let address = parts::part_before(line, parts::TAB);
+    let rest = parts::part_behind(line, parts::TAB);
+    let bytes = parts::part_before(rest, parts::TAB);
     if is_missing(address) {
         return Checked::Wrong(Kind::Form);
     }
@@ -67,7 +67,7 @@ pub fn judge(text: &[u8], size: u64) -> Reading
     let mut passed: u64 = 0;
     let mut free: u64 = 0;
     while at < text.len() {
-        let end = parts::place_from(text, at, 10);
+        let end = parts::place_from(text, at, parts::LINE_FEED);
         if text.len() <= end {
             return Reading::Faulty(passed + 1, Kind::Form);
         }

@@ -39,9 +39,9 @@ fn lay_line(line: &[u8], memory: &mut [u8])
     requires { ⌜ (length (recordOf (now line) .address) ≤ 16) × (endOf (recordOf (now line)) ≤ length (now memory)) ⌝ }
     ensures { λ _. ⌜ now (memory .exit) ≡ laid (recordOf (now (line .entry)) ∷ []) (now (memory .entry)) ⌝ }
 {
-    let address = parts::part_before(line, 9);
-    let rest = parts::part_behind(line, 9);
-    let digits = parts::part_before(rest, 9);
+    let address = parts::part_before(line, parts::TAB);
+    let rest = parts::part_behind(line, parts::TAB);
+    let digits = parts::part_before(rest, parts::TAB);
     put(memory, hex::number(address) as usize, digits);
 }
 
@@ -52,7 +52,7 @@ pub fn lay(text: &[u8], memory: &mut [u8])
 {
     let mut at: usize = 0;
     while at < text.len() {
-        let end = parts::place_from(text, at, 10);
+        let end = parts::place_from(text, at, parts::LINE_FEED);
         lay_line(&text[at..end], memory);
         at = end + 1;
     }

@@ -4,6 +4,10 @@ ghost use Prim.Native.Nat.{_+_, _≤_};
 ghost use lib.ListN.{length, drop};
 ghost use Rattle.text.specs.Parts.{before, behind};
 
+pub const TAB: u8 = 9;
+
+pub const LINE_FEED: u8 = 10;
+
 // The place of the first c, or the length where there is none.
 pub fn place(s: &[u8], c: u8) -> usize
     ensures { λ r. ⌜ r ≡ length (before c (now (s .entry))) ⌝ }
