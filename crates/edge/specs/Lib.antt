@@ -1,2 +1,3 @@
 pub mod Edge
 pub mod Checked
+pub mod Days

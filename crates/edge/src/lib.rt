@@ -1,4 +1,6 @@
-// The host edge: one exported function on byte slices and numbers.
+// The host edge: exported functions on byte slices and numbers.
+mod days;
+
 use machine::Codes;
 use machine::PIPE_LIMIT;
 use machine::Pipeline;
