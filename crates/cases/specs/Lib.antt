@@ -11,3 +11,4 @@ pub mod Program
 pub mod Single
 pub mod Wrong
 pub mod Edge
+pub mod Days
