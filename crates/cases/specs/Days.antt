@@ -4,6 +4,7 @@ use mathlib.Core.Bool.{Bool, true, false, _&&_}
 use mathlib.Core.List.{List, [], _∷_, _++_}
 use mathlib.Core.Path.{_≡_, refl}
 use lib.Dec.{eqb}
+use lib.Ieee.{toBits, round}
 use lib.ListN.{replicate}
 use Rattle.machine.specs.Memory.{inside}
 use Rattle.machine.specs.Runs.{lowest}
@@ -89,5 +90,5 @@ refusalsHold (r ∷ rs) = eqb (refusalOf (replicate (r .0) 0) (r .1) (r .2) (r .
 
 -- every day and every refusal holds
 pub days-hold : daysHold days && refusalsHold asked ≡ true
-unfolding daysHold refusalsHold days asked same wordsOf dayWords comparisonNumber isGood good failed total largest firstPlace peakOf placeOf meanOf meanBits bySign compared rawOf foundIn dayOf refusalOf lowest inside signed
+unfolding daysHold refusalsHold days asked same wordsOf dayWords comparisonNumber isGood good failed total largest firstPlace peakOf placeOf meanOf meanBits bySign compared rawOf foundIn dayOf refusalOf lowest inside signed toBits round
 days-hold = refl
