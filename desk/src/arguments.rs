@@ -2,12 +2,15 @@
 
 use crate::bench::Once;
 use crate::inspect::Asked;
+use crate::judge;
 use crate::Fault;
 use std::ffi::{OsStr, OsString};
+use std::path::PathBuf;
 
 pub enum Command {
     Help,
     Replay(Asked),
+    Peaks(judge::Asked),
     Bench,
     Instructions,
     /// One replay without a time, for `bench --instructions` to count.
@@ -20,42 +23,31 @@ pub fn read(words: Vec<OsString>) -> Result<Command, Fault> {
         return Ok(Command::Help);
     }
     let Some((first, rest)) = words.split_first() else {
-        return Err(usage("a command is missing: replay or bench"));
+        return Err(usage("a command is missing: replay, peaks or bench"));
     };
     match first.to_str() {
         Some("replay") => replay(rest).map(Command::Replay),
+        Some("peaks") => peaks(rest).map(Command::Peaks),
         Some("bench") => bench(rest),
         _ => Err(usage(format!(
-            "{} is no command; there are replay and bench",
+            "{} is no command; there are replay, peaks and bench",
             shown(first)
         ))),
     }
 }
 
-/// The words after `desk replay`, in any order.
+/// The words after `desk replay`.
 fn replay(words: &[OsString]) -> Result<Asked, Fault> {
     let mut options = Options::default();
-    let mut words = words.iter();
-    while let Some(word) = words.next() {
-        match word.to_str() {
-            Some("--second") => once("--second", options.second.replace(()))?,
-            Some(name) if name.starts_with("--") => {
-                let (name, joined) = split(name);
-                let place = options.named(name)?;
-                let value = joined.or_else(|| words.next().cloned());
-                let value = value.ok_or_else(|| usage(format!("{name} wants a value")))?;
-                once(name, place.replace(value))?;
-            }
-            _ => {
-                let earlier = options.image.replace(word.clone());
-                if earlier.is_some() {
-                    let second = shown(word);
-                    return Err(usage(format!("one image at a time: {second} is another")));
-                }
-            }
-        }
-    }
-    options.asked()
+    options.take("replay", words)?;
+    options.replay()
+}
+
+/// The words after `desk peaks`.
+fn peaks(words: &[OsString]) -> Result<judge::Asked, Fault> {
+    let mut options = Options::default();
+    options.take("peaks", words)?;
+    options.peaks()
 }
 
 /// An option and, where they are joined by `=`, its value.
@@ -66,7 +58,7 @@ fn split(word: &str) -> (&str, Option<OsString>) {
     }
 }
 
-/// The words of one `desk replay`, by their place.
+/// The words of one `desk replay` or `desk peaks`, by their place.
 #[derive(Default)]
 struct Options {
     image: Option<OsString>,
@@ -74,28 +66,77 @@ struct Options {
     codes: Option<OsString>,
     budget: Option<OsString>,
     registers: Option<OsString>,
+    table: Option<OsString>,
+    length: Option<OsString>,
+    filed: Option<OsString>,
     second: Option<()>,
 }
 
 impl Options {
-    /// The place of an option that has a value.
-    fn named(&mut self, name: &str) -> Result<&mut Option<OsString>, Fault> {
-        match name {
-            "--start" => Ok(&mut self.start),
-            "--codes" => Ok(&mut self.codes),
-            "--budget" => Ok(&mut self.budget),
-            "--registers" => Ok(&mut self.registers),
-            _ => Err(usage(format!("{name} is no option of replay"))),
+    /// The words after a command, in any order.
+    fn take(&mut self, command: &str, words: &[OsString]) -> Result<(), Fault> {
+        let mut words = words.iter();
+        while let Some(word) = words.next() {
+            match word.to_str() {
+                Some("--second") => once("--second", self.second.replace(()))?,
+                Some(name) if name.starts_with("--") => {
+                    let (name, joined) = split(name);
+                    let place = self.named(command, name)?;
+                    let value = joined.or_else(|| words.next().cloned());
+                    let value = value.ok_or_else(|| usage(format!("{name} wants a value")))?;
+                    once(name, place.replace(value))?;
+                }
+                _ => {
+                    let earlier = self.image.replace(word.clone());
+                    if earlier.is_some() {
+                        let second = shown(word);
+                        return Err(usage(format!("one image at a time: {second} is another")));
+                    }
+                }
+            }
+        }
+        Ok(())
+    }
+
+    /// The place of an option of a command that has a value.
+    fn named(&mut self, command: &str, name: &str) -> Result<&mut Option<OsString>, Fault> {
+        match (command, name) {
+            ("replay", "--start") => Ok(&mut self.start),
+            ("replay", "--codes") => Ok(&mut self.codes),
+            ("replay", "--budget") => Ok(&mut self.budget),
+            ("replay", "--registers") => Ok(&mut self.registers),
+            ("peaks", "--table") => Ok(&mut self.table),
+            ("peaks", "--length") => Ok(&mut self.length),
+            ("peaks", "--filed") => Ok(&mut self.filed),
+            _ => Err(usage(format!("{name} is no option of {command}"))),
         }
     }
 
-    /// What is asked for; options not given have the values of y86run.
-    fn asked(self) -> Result<Asked, Fault> {
-        let image = self
-            .image
-            .ok_or_else(|| usage("replay wants an image: a file of 1 to 4,096 raw bytes"))?;
+    fn image(&mut self, command: &str) -> Result<PathBuf, Fault> {
+        let wanted = || {
+            usage(format!(
+                "{command} wants an image: a file of 1 to 4,096 raw bytes"
+            ))
+        };
+        self.image.take().map(Into::into).ok_or_else(wanted)
+    }
+
+    /// The day that is asked for: none of its numbers can be left out.
+    fn peaks(mut self) -> Result<judge::Asked, Fault> {
+        Ok(judge::Asked {
+            image: self.image("peaks")?,
+            table: wanted("--table", self.table)?,
+            length: wanted("--length", self.length)?,
+            filed: wanted("--filed", self.filed)?,
+            second: self.second.is_some(),
+        })
+    }
+
+    /// The replay that is asked for; options not given have the values of
+    /// y86run.
+    fn replay(mut self) -> Result<Asked, Fault> {
         Ok(Asked {
-            image: image.into(),
+            image: self.image("replay")?,
             registers: self.registers.map(Into::into),
             start: number_or("--start", self.start, 0)?,
             codes: number_or("--codes", self.codes, 4)?,
@@ -128,6 +169,11 @@ fn once<T>(name: &str, earlier: Option<T>) -> Result<(), Fault> {
         None => Ok(()),
         Some(_) => Err(usage(format!("{name} is given twice"))),
     }
+}
+
+fn wanted(name: &str, word: Option<OsString>) -> Result<u64, Fault> {
+    let word = word.ok_or_else(|| usage(format!("peaks wants {name} and a number")))?;
+    number(name, &word)
 }
 
 fn number_or(name: &str, word: Option<OsString>, otherwise: u64) -> Result<u64, Fault> {

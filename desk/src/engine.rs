@@ -1,8 +1,8 @@
 //! The product, called through its host edge.
 
-// Nothing checks this declaration against the Rattle source: it is written
-// after `y86_replay` in crates/edge/src/lib.rt by hand, and the two change
-// together. A slice passes as its pointer and then its length.
+// Nothing checks these declarations against the Rattle source: they are written
+// after crates/edge/src/lib.rt and crates/edge/src/days.rt by hand, and change
+// with them. A slice passes as its pointer and then its length.
 extern "C" {
     fn y86_replay(
         memory: *mut u8,
@@ -14,6 +14,16 @@ extern "C" {
         start: u64,
         codes: u64,
         budget: u64,
+    ) -> u64;
+
+    fn y86_peaks(
+        memory: *const u8,
+        memory_length: usize,
+        result: *mut u8,
+        result_length: usize,
+        table: u64,
+        length: u64,
+        filed: u64,
     ) -> u64;
 }
 
@@ -44,6 +54,24 @@ pub fn replay(
             start,
             codes,
             budget,
+        )
+    }
+}
+
+/// A day's table of words against the filed peak, both by their addresses in a
+/// final memory (#114). Seven result words; answers 0 or the number of the
+/// refusal, which changes nothing.
+pub fn peaks(memory: &[u8], result: &mut [u8], table: u64, length: u64, filed: u64) -> u64 {
+    // SAFETY: as above; memory is only read.
+    unsafe {
+        y86_peaks(
+            memory.as_ptr(),
+            memory.len(),
+            result.as_mut_ptr(),
+            result.len(),
+            table,
+            length,
+            filed,
         )
     }
 }
@@ -87,11 +115,7 @@ pub fn outcome(
 impl Outcome {
     /// The words of a result block.
     pub fn read(block: &[u8; 40]) -> Outcome {
-        let mut words = [0; 5];
-        for (word, bytes) in words.iter_mut().zip(block.chunks_exact(8)) {
-            *word = bytes.iter().rev().fold(0, |w, b| w << 8 | u64::from(*b));
-        }
-        let [status, last, codes, retired, cycles] = words;
+        let [status, last, codes, retired, cycles] = words(block);
         Outcome {
             status,
             last,
@@ -100,4 +124,13 @@ impl Outcome {
             cycles,
         }
     }
+}
+
+/// The words of a block, least byte first.
+pub fn words<const N: usize>(block: &[u8]) -> [u64; N] {
+    let mut words = [0; N];
+    for (word, bytes) in words.iter_mut().zip(block.chunks_exact(8)) {
+        *word = bytes.iter().rev().fold(0, |w, b| w << 8 | u64::from(*b));
+    }
+    words
 }

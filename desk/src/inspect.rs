@@ -22,9 +22,9 @@ pub struct Asked {
 
 /// A file's first bytes, one more than may be used: what is too long is seen
 /// to be so, and not read on, however long it is.
-struct Source {
+pub struct Source {
     name: String,
-    bytes: Vec<u8>,
+    pub bytes: Vec<u8>,
     /// The whole length, where the file has one.
     length: Option<u64>,
 }
@@ -77,7 +77,7 @@ fn refusal(number: u64, asked: &Asked, image: &Source, registers: &Source) -> St
 }
 
 impl Source {
-    fn read(path: &Path, most: usize) -> Result<Source, Fault> {
+    pub fn read(path: &Path, most: usize) -> Result<Source, Fault> {
         let name = path.display().to_string();
         let fault = |why: String| Fault::new(Fault::FILE, format!("cannot read {name}: {why}"));
         let file = File::open(path).map_err(|error| fault(words(&error)))?;
@@ -105,7 +105,7 @@ impl Source {
     }
 
     /// How long it is, for a refusal.
-    fn says(&self) -> String {
+    pub fn says(&self) -> String {
         let (name, seen) = (&self.name, self.bytes.len() as u64);
         match self.length {
             _ if seen == 0 => format!("{name} is empty, 0 bytes"),

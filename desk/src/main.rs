@@ -3,6 +3,7 @@
 mod arguments;
 mod bench;
 mod inspect;
+mod judge;
 mod report;
 
 use arguments::Command;
@@ -14,6 +15,9 @@ desk: replays of Y86-64 images by the proved engine, for inspectors
 
 usage:
   desk replay IMAGE [options]   replay a raw image and show what it left
+  desk peaks IMAGE --table A --length L --filed P
+                                replay it, and hold the filed peak against the
+                                largest good sample of the day
   desk bench                    time the engine against the second program
   desk bench --instructions     count both engines' instructions (by valgrind)
   desk --help                   this text
@@ -37,11 +41,18 @@ from address 0 on, least byte first; the last has what is left). Where the
 budget was spent, instructions are on their way: memory and codes can be ahead
 of the registers.
 
-exit status:
+peaks replays the image as y86run does. A is the address of the day's table of
+L words, 1 to 1,440, and P the address of the filed peak, in the final memory. A
+word below 2^32 is a good sample, any other a failed one. --second gives a second
+opinion. Exit status: 0 at the raw peak, 1 below it, 2 above it, 3 cannot be
+compared, 4 no good sample.
+
+exit status of replay:
   0  HLT: the image halted
   1  AOK: the budget was spent before a stop
   2  ADR: an address outside memory
   3  INS: bytes that are no instruction
+of both:
   10 refused: nothing was replayed, and the message says why, with the number
   64 the command was at fault        66 a file could not be read
   69 bench: valgrind did not run     74 the output could not be written
@@ -85,6 +96,10 @@ fn perform(command: Command) -> Result<u8, Fault> {
         Command::Help => say(HELP).map(|()| 0),
         Command::Replay(asked) => {
             let (text, status) = inspect::replay(&asked)?;
+            say(&text).map(|()| status)
+        }
+        Command::Peaks(asked) => {
+            let (text, status) = judge::day(&asked)?;
             say(&text).map(|()| status)
         }
         Command::Bench => bench::times().map(|()| 0),

@@ -12,6 +12,7 @@ pub mod fetch;
 mod flow;
 pub mod letter;
 pub mod machine;
+pub mod peaks;
 pub mod pipeline;
 pub mod plain;
 pub mod replay;
