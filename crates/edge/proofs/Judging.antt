@@ -1,11 +1,9 @@
 -- The exported day: one law for each way out, over variables for what the callees gave. Assumes nothing.
-use mathlib.Core.Bool.{not}
 use mathlib.Core.List.{List, [], _∷_}
 use mathlib.Core.Path.{_≡_, sym, _∙_}
 use Prim.Native.Nat.{ℕ}
 use borrow.Author.Tests.{eq-eqb, ne-eqb}
 use lib.Dec.{T}
-use lib.Ieee.{isNan}
 use lib.ListN.{length}
 use Rattle.machine.specs.Memory.{Memory}
 use Rattle.peaks.specs.declared.Found.the-variants.{NoGoodSample as noGoodSample, GoodSamples as goodSamples}
@@ -25,10 +23,6 @@ unfolding dayWords wordsOf
 no-words d e = rw e
 
 module _ (d : Day) (raw : Raw) (e : d .found ≡ goodSamples raw) where
-  pub raw-number : T (meanIsNumber (d .found)) → T (not (isNan (raw .mean)))
-  unfolding meanIsNumber
-  raw-number h = rw e at h
-
   pub some-words : (bits n : ℕ) → bits ≡ meanBits (raw .mean) → n ≡ comparisonNumber (raw .filed)
       → d .good ∷ raw .peak ∷ raw .place ∷ d .failed ∷ d .sum ∷ bits ∷ n ∷ [] ≡ dayWords d
   unfolding dayWords wordsOf

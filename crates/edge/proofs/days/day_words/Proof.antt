@@ -1,4 +1,5 @@
-use Rattle.edge.proofs.Judging.{raw-number, no-words, some-words}
+use Rattle.peaks.specs.Division.{raw-number}
+use Rattle.edge.proofs.Judging.{no-words, some-words}
 use borrow.Author.Needs.{needs}
 use Rattle.edge.proofs.days.day_words.Statement.{statement}
 use Rattle.edge.proofs.days.day_words.Tie as tie
