@@ -46,7 +46,8 @@ pub missed : {a b c d : List ℕ} {at i j r : ℕ} (day : Day) → Put (missing 
 unfolding missingLines
 missed day x y z = put-both (put-both x y) z
 
-pub found : {a b c d e : List ℕ} {at i j k r : ℕ} (day : Day) (raw : Raw) (bits : ℕ) → bits ≡ meanBits (raw .mean) → Put (peakLines raw) at a i b → Put (totalLines day) i b j c
+pub found : {a b c d e : List ℕ} {at i j k r : ℕ} (day : Day) (raw : Raw) (bits : ℕ) → bits ≡ meanBits (raw .mean) → Put (peakLines raw) at a i b
+    → Put (totalLines day) i b j c
     → Put (numberLine "mean" bits) j c k d → Put (filedLine (raw .filed)) k d r e → Put (foundLines day raw) at a r e
 unfolding foundLines
 found day raw bits h x y z w = put-both (put-both (put-both x y) (rw h at z)) w
@@ -69,11 +70,13 @@ whole p l h = put-front p (omega (arith, p .place))
 
 -- THE ANSWER
 module _ (a : Answer) (out : List ℕ) {b : List ℕ} {r : ℕ} where
-  pub answer-refused : (k : ℕ) → a ≡ refused k → _≡_ {A = ℕ × List ℕ} (r, b) (written (numberLine "refused" k) out) → _≡_ {A = ℕ × List ℕ} (r, b) (written (answerLines a) out)
+  pub answer-refused : (k : ℕ) → a ≡ refused k → _≡_ {A = ℕ × List ℕ} (r, b) (written (numberLine "refused" k) out)
+      → _≡_ {A = ℕ × List ℕ} (r, b) (written (answerLines a) out)
   unfolding answerLines
   answer-refused k e x = rw e x
 
-  pub answer-day : (d : Day) → a ≡ judgedAs d → _≡_ {A = ℕ × List ℕ} (r, b) (written (dayLines d) out) → _≡_ {A = ℕ × List ℕ} (r, b) (written (answerLines a) out)
+  pub answer-day : (d : Day) → a ≡ judgedAs d → _≡_ {A = ℕ × List ℕ} (r, b) (written (dayLines d) out)
+      → _≡_ {A = ℕ × List ℕ} (r, b) (written (answerLines a) out)
   unfolding answerLines
   answer-day d e x = rw e x
 
@@ -94,7 +97,8 @@ replayed image image′ n fresh p e f = ap (λ (o : PipeAnswer). o .memory) (f �
 
 -- THE REQUEST
 module _ (q : Request) (image out : List ℕ) (i : Bool) (h : i ≡ imageRefused (length image)) {b : List ℕ} {r : ℕ} where
-  pub request-refused : i ≡ true → _≡_ {A = ℕ × List ℕ} (r, b) (written (numberLine "refused" 5) out) → _≡_ {A = ℕ × List ℕ × List ℕ} (r, b, image) (requested q image out)
+  pub request-refused : i ≡ true → _≡_ {A = ℕ × List ℕ} (r, b) (written (numberLine "refused" 5) out)
+      → _≡_ {A = ℕ × List ℕ × List ℕ} (r, b, image) (requested q image out)
   unfolding requested requestText imageLeft
   request-refused t e = rw (sym h ∙ t) (ap (λ (x : ℕ × List ℕ). (x .0, x .1, image)) e)
 
@@ -110,10 +114,12 @@ mid-rest a t = ap (λ (n : ℕ). take n (drop a t)) (sym (length-drop a t)) ∙ 
 
 put-rest : (a : ℕ) (t s : List ℕ) → a ≤ length t → putMid a (length t - a) t s ≡ take a t ++ s
 put-rest a t s h =
-    ap (λ (z : List ℕ). take a t ++ (s ++ z)) (post-is a (length t) t h ∙ drop-of-length-le t {i = length t} (omega arith)) ∙ ap (λ (z : List ℕ). take a t ++ z) (append-nil s)
+    ap (λ (z : List ℕ). take a t ++ (s ++ z)) (post-is a (length t) t h ∙ drop-of-length-le t {i = length t} (omega arith))
+    ∙ ap (λ (z : List ℕ). take a t ++ z) (append-nil s)
 
 module _ (t out : List ℕ) (l : FirstLine) (h : l ≡ firstLine t) {b : List ℕ} {r : ℕ} where
-  pub input-bad : l ≡ badLine → _≡_ {A = ℕ × List ℕ} (r, b) (written (numberLine "refused" 4) out) → _≡_ {A = ℕ × List ℕ × List ℕ} (r, b, t) (answeredInput t out)
+  pub input-bad : l ≡ badLine → _≡_ {A = ℕ × List ℕ} (r, b) (written (numberLine "refused" 4) out)
+      → _≡_ {A = ℕ × List ℕ × List ℕ} (r, b, t) (answeredInput t out)
   unfolding answeredInput writtenFor inputText inputLeft
   input-bad e x = rw (sym h ∙ e) (ap (λ (y : ℕ × List ℕ). (y .0, y .1, t)) x)
 

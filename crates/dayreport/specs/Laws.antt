@@ -4,7 +4,7 @@ use Prim.Native.Nat.{ℕ, _+_, _^_, _≤_, _<_}
 use native.Mathlib.Omega.{arith}
 use mathlib.Core.Bool.{false}
 use mathlib.Core.List.{List, [], _∷_, _++_, append-assoc}
-use mathlib.Core.Path.{_≡_, refl, ap}
+use mathlib.Core.Path.{_≡_, refl, sym, ap, _∙_}
 use lib.Dec.{eqb, ltb}
 use lib.ListN.{length, length-append}
 use Rattle.machine.specs.Memory.{Memory}
@@ -33,6 +33,10 @@ pub handed-over : (input out out′ input′ : List ℕ) (n : ℕ) → _≡_ {A 
 unfolding answeredInput
 handed-over input out out′ input′ n e = written-within (writtenFor input) out out′ n (ap (λ (x : ℕ × List ℕ × List ℕ). (x .0, x .1)) e)
 
+-- ONE ANSWER ONLY: two that meet the promise are equal
+pub one-answer : (input out : List ℕ) (a b : ℕ × List ℕ × List ℕ) → a ≡ answeredInput input out → b ≡ answeredInput input out → a ≡ b
+one-answer input out a b p q = p ∙ sym q
+
 -- READ BACK
 read-at : (t front : List ℕ) (n end : ℕ) (rest : List ℕ) (k : ℕ) → n < 2 ^ 64 → isDigit end ≡ false → t ≡ front ++ (decimal n ++ end ∷ rest) → k ≡ length front
     → fieldEnded t k end ≡ number n (k + length (decimal n) + 1)
@@ -50,6 +54,8 @@ module _ (table size filed : ℕ) (image : List ℕ) (p : table < 2 ^ 64) (q : s
       let one = decimal table ++ 9 ∷ [] in
       let two = one ++ (decimal size ++ 9 ∷ []) in
       let x : fieldEnded t 0 9 ≡ number table a = read-at t [] table 9 (decimal size ++ 9 ∷ (decimal filed ++ 10 ∷ image)) 0 p refl refl refl in
-      let y : fieldEnded t a 9 ≡ number size b = read-at t one size 9 (decimal filed ++ 10 ∷ image) a q refl (simp append-assoc) (simp length-append (omega arith)) in
-      let z : fieldEnded t b 10 ≡ number filed (b + length (decimal filed) + 1) = read-at t two filed 10 image b r refl (simp append-assoc) (simp length-append (omega arith)) in
+      let y : fieldEnded t a 9 ≡ number size b =
+      read-at t one size 9 (decimal filed ++ 10 ∷ image) a q refl (simp append-assoc) (simp length-append (omega arith)) in
+      let z : fieldEnded t b 10 ≡ number filed (b + length (decimal filed) + 1) =
+      read-at t two filed 10 image b r refl (simp append-assoc) (simp length-append (omega arith)) in
       rw (x, y, z)

@@ -10,7 +10,9 @@ write-refusal-requires : tie.Need-write-refusal-requires
 write-refusal-requires c κs = search needs
 
 returns : tie.Need-returns
-returns c = request-refused (c .before .before .before .before .before .args .request) _ _ _ (c .before .before .before .image-refused .ensures) (c .before .before .if1 .taken) (c .write-refusal .ensures)
+returns c =
+    request-refused (c .before .before .before .before .before .args .request) _ _ _ (c .before .before .before .image-refused .ensures)
+    (c .before .before .if1 .taken) (c .write-refusal .ensures)
 
 replay-requires : tie.Need-replay-requires
 replay-requires c κs = search needs
@@ -25,7 +27,11 @@ same-length : tie.Need-same-length
 same-length c = search needs
 
 returns-2 : tie.Need-returns-2
-returns-2 c = request-done (c .before .before .before .before .before .before .before .before .before .before .before .args .request) _ _ _ (c .before .before .before .before .before .before .before .before .before .image-refused .ensures) _ _ (c .before .before .before .before .before .before .before .before .if1 .left) (c .before .before .before .before .before .before .replay .ensures) (c .before .before .judge .ensures) (c .write-answer .ensures)
+returns-2 c =
+    request-done (c .before .before .before .before .before .before .before .before .before .before .before .args .request) _ _ _
+    (c .before .before .before .before .before .before .before .before .before .image-refused .ensures) _ _
+    (c .before .before .before .before .before .before .before .before .if1 .left)
+    (c .before .before .before .before .before .before .replay .ensures) (c .before .before .judge .ensures) (c .write-answer .ensures)
 
 pub report-request-spec : {M : Type 1} → statement M
 report-request-spec =

@@ -25,7 +25,9 @@ enum-told-2 : tie.Need-enum-told-2
 enum-told-2 c = search needs
 
 returns-2 : tie.Need-returns-2
-returns-2 c = bad-second _ _ (c .before .before .before .before .before .before .read-field .ensures) _ _ (c .before .before .before .before .first .given .1) _ (c .before .before .read-field2 .ensures) (c .enum-told2 .given .1)
+returns-2 c =
+    bad-second _ _ (c .before .before .before .before .before .before .read-field .ensures) _ _ (c .before .before .before .before .first .given .1) _
+    (c .before .before .read-field2 .ensures) (c .enum-told2 .given .1)
 
 read-field-requires-3 : tie.Need-read-field-requires-3
 read-field-requires-3 c κs = search needs
@@ -37,10 +39,18 @@ enum-told-3 : tie.Need-enum-told-3
 enum-told-3 c = search needs
 
 returns-3 : tie.Need-returns-3
-returns-3 c = bad-third _ _ (c .before .before .before .before .before .before .before .before .before .before .read-field .ensures) _ _ (c .before .before .before .before .before .before .before .before .first .given .1) _ (c .before .before .before .before .before .before .read-field2 .ensures) _ _ (c .before .before .before .before .second .given .1) _ (c .before .before .read-field3 .ensures) (c .enum-told3 .given .1)
+returns-3 c =
+    bad-third _ _ (c .before .before .before .before .before .before .before .before .before .before .read-field .ensures) _ _
+    (c .before .before .before .before .before .before .before .before .first .given .1) _
+    (c .before .before .before .before .before .before .read-field2 .ensures) _ _ (c .before .before .before .before .second .given .1) _
+    (c .before .before .read-field3 .ensures) (c .enum-told3 .given .1)
 
 returns-4 : tie.Need-returns-4
-returns-4 c = good-line _ _ (c .before .before .before .before .before .before .before .before .before .before .before .read-field .ensures) _ _ (c .before .before .before .before .before .before .before .before .before .first .given .1) _ (c .before .before .before .before .before .before .before .read-field2 .ensures) _ _ (c .before .before .before .before .before .second .given .1) _ (c .before .before .before .read-field3 .ensures) _ _ (c .before .third .given .1)
+returns-4 c =
+    good-line _ _ (c .before .before .before .before .before .before .before .before .before .before .before .read-field .ensures) _ _
+    (c .before .before .before .before .before .before .before .before .before .first .given .1) _
+    (c .before .before .before .before .before .before .before .read-field2 .ensures) _ _
+    (c .before .before .before .before .before .second .given .1) _ (c .before .before .before .read-field3 .ensures) _ _ (c .before .third .given .1)
 
 pub read-line-spec : {M : Type 1} → statement M
 read-line-spec =

@@ -15,19 +15,31 @@ enum-known-found : tie.Need-enum-known-found
 enum-known-found c = search needs
 
 put-found-requires : tie.Need-put-found-requires
-put-found-requires c κs = (omega arith, raw-number (c .before .before .before .before .before .args .day) _ (c .before .before .found .given .1) (c .before .before .before .before .before .pre .1))
+put-found-requires c κs = (
+  omega arith,
+  raw-number (c .before .before .before .before .before .args .day) _ (c .before .before .found .given .1)
+      (c .before .before .before .before .before .pre .1),
+)
 
 same-length : tie.Need-same-length
 same-length c = search needs
 
 returns : tie.Need-returns
-returns c = (day-missed (c .before .before .before .before .before .before .before .args .day) (c .before .before .before .before .enum-told .given .1) (c .before .before .put-missing .ensures .0), omega arith)
+returns c = (
+  day-missed (c .before .before .before .before .before .before .before .args .day) (c .before .before .before .before .enum-told .given .1)
+      (c .before .before .put-missing .ensures .0),
+  omega arith,
+)
 
 same-length-2 : tie.Need-same-length-2
 same-length-2 c = search needs
 
 returns-2 : tie.Need-returns-2
-returns-2 c = (day-found (c .before .before .before .before .before .before .before .before .args .day) _ (c .before .before .before .before .before .found .given .1) (c .before .before .put-found .ensures .0), omega arith)
+returns-2 c = (
+  day-found (c .before .before .before .before .before .before .before .before .args .day) _
+      (c .before .before .before .before .before .found .given .1) (c .before .before .put-found .ensures .0),
+  omega arith,
+)
 
 pub put-day-spec : {M : Type 1} → statement M
 put-day-spec =

@@ -49,28 +49,44 @@ same-length c = search needs
 
 returns : tie.Need-returns
 unfolding filedLine filedText line bytes
-returns c = (filed-line (c .before .before .before .before .before .before .before .before .args .c) below (cc) (c .before .before .put-text .ensures), omega arith)
+returns c = (
+  filed-line (c .before .before .before .before .before .before .before .before .args .c) below (cc)
+      (c .before .before .put-text .ensures),
+  omega arith,
+)
 
 same-length-2 : tie.Need-same-length-2
 same-length-2 c = search needs
 
 returns-2 : tie.Need-returns-2
 unfolding filedLine filedText line bytes
-returns-2 c = (filed-line (c .before .before .before .before .before .before .before .before .args .c) at (cc) (c .before .before .put-text2 .ensures), omega arith)
+returns-2 c = (
+  filed-line (c .before .before .before .before .before .before .before .before .args .c) at (cc)
+      (c .before .before .put-text2 .ensures),
+  omega arith,
+)
 
 same-length-3 : tie.Need-same-length-3
 same-length-3 c = search needs
 
 returns-3 : tie.Need-returns-3
 unfolding filedLine filedText line bytes
-returns-3 c = (filed-line (c .before .before .before .before .before .before .before .before .args .c) above (cc) (c .before .before .put-text3 .ensures), omega arith)
+returns-3 c = (
+  filed-line (c .before .before .before .before .before .before .before .before .args .c) above (cc)
+      (c .before .before .put-text3 .ensures),
+  omega arith,
+)
 
 same-length-4 : tie.Need-same-length-4
 same-length-4 c = search needs
 
 returns-4 : tie.Need-returns-4
 unfolding filedLine filedText line bytes
-returns-4 c = (filed-line (c .before .before .before .before .before .before .before .before .args .c) notComparable (cc) (c .before .before .put-text4 .ensures), omega arith)
+returns-4 c = (
+  filed-line (c .before .before .before .before .before .before .before .before .args .c) notComparable (cc)
+      (c .before .before .put-text4 .ensures),
+  omega arith,
+)
 
 pub put-filed-spec : {M : Type 1} → statement M
 put-filed-spec =

@@ -28,7 +28,17 @@ same-length c = search needs
 
 returns : tie.Need-returns
 unfolding bytes
-returns c = (found (c .before .before .before .before .before .before .before .before .before .before .before .before .before .before .before .before .before .before .before .args .day) (c .before .before .before .before .before .before .before .before .before .before .before .before .before .before .before .before .before .before .before .args .raw) _ (c .before .before .before .before .before .before .before .mean-bits .ensures) (c .before .before .before .before .before .before .before .before .before .before .before .before .before .before .before .before .put-peak .ensures .0) (c .before .before .before .before .before .before .before .before .before .before .before .before .put-totals .ensures .0) (c .before .before .before .before .before .before .put-number .ensures .0) (c .before .before .put-filed .ensures .0), omega arith)
+returns c =
+    let s = c .before .before .before .before .before .before .before .before .before .before .before .before .before .before .before .before .before .before .before .args in (
+      found
+          (s .day)
+          (s .raw) _
+          (c .before .before .before .before .before .before .before .mean-bits .ensures)
+          (c .before .before .before .before .before .before .before .before .before .before .before .before .before .before .before .before .put-peak .ensures .0)
+          (c .before .before .before .before .before .before .before .before .before .before .before .before .put-totals .ensures .0)
+          (c .before .before .before .before .before .before .put-number .ensures .0) (c .before .before .put-filed .ensures .0),
+      omega arith,
+    )
 
 pub put-found-spec : {M : Type 1} → statement M
 put-found-spec =

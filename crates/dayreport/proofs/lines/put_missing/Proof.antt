@@ -27,7 +27,12 @@ same-length c = search needs
 
 returns : tie.Need-returns
 unfolding missing line bytes
-returns c = (missed (c .before .before .before .before .before .before .before .before .before .before .before .before .before .before .before .args .day) (c .before .before .before .before .before .before .before .before .before .before .before .put-text .ensures) (c .before .before .before .before .before .before .before .put-totals .ensures .0) (c .before .before .put-text2 .ensures), omega arith)
+returns c = (
+  missed (c .before .before .before .before .before .before .before .before .before .before .before .before .before .before .before .args .day)
+      (c .before .before .before .before .before .before .before .before .before .before .before .put-text .ensures)
+      (c .before .before .before .before .before .before .before .put-totals .ensures .0) (c .before .before .put-text2 .ensures),
+  omega arith,
+)
 
 pub put-missing-spec : {M : Type 1} → statement M
 put-missing-spec =

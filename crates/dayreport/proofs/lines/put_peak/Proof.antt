@@ -22,7 +22,11 @@ same-length c = search needs
 
 returns : tie.Need-returns
 unfolding bytes
-returns c = (peak (c .before .before .before .before .before .before .before .before .before .before .before .args .raw) (c .before .before .before .before .before .before .before .put-number .ensures .0) (c .before .before .put-number2 .ensures .0), omega arith)
+returns c = (
+  peak (c .before .before .before .before .before .before .before .before .before .before .before .args .raw)
+      (c .before .before .before .before .before .before .before .put-number .ensures .0) (c .before .before .put-number2 .ensures .0),
+  omega arith,
+)
 
 pub put-peak-spec : {M : Type 1} → statement M
 put-peak-spec =

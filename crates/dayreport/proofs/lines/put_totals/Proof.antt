@@ -22,7 +22,11 @@ same-length c = search needs
 
 returns : tie.Need-returns
 unfolding bytes
-returns c = (totals (c .before .before .before .before .before .before .before .before .before .before .before .args .day) (c .before .before .before .before .before .before .before .put-number .ensures .0) (c .before .before .put-number2 .ensures .0), omega arith)
+returns c = (
+  totals (c .before .before .before .before .before .before .before .before .before .before .before .args .day)
+      (c .before .before .before .before .before .before .before .put-number .ensures .0) (c .before .before .put-number2 .ensures .0),
+  omega arith,
+)
 
 pub put-totals-spec : {M : Type 1} → statement M
 put-totals-spec =

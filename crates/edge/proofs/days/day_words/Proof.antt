@@ -20,7 +20,9 @@ returns : tie.Need-returns
 returns c = search (needs, no-words)
 
 returns-2 : tie.Need-returns-2
-returns-2 c = some-words (c .before .before .before .before .before .args .day) _ (c .before .before .before .found .given .1) _ _ (c .before .mean-bits .ensures) (c .comparison-number .ensures)
+returns-2 c =
+    some-words (c .before .before .before .before .before .args .day) _ (c .before .before .before .found .given .1) _ _
+    (c .before .mean-bits .ensures) (c .comparison-number .ensures)
 
 pub day-words-spec : {M : Type 1} → statement M
 day-words-spec =

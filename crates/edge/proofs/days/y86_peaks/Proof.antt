@@ -35,7 +35,8 @@ returns-3 c =
     let called = c .before .before in
     let tested = called .before .before .before .before in
     let matched = tested .before .before .before in
-    day-done _ _ _ _ _ _ (matched .before .judge .ensures) _ (tested .before .before .answer2 .given .1) _ _ (tested .if1 .left) (called .before .before .before .day-words .ensures) (called .write-words .ensures)
+    day-done _ _ _ _ _ _ (matched .before .judge .ensures) _ (tested .before .before .answer2 .given .1) _ _ (tested .if1 .left)
+    (called .before .before .before .day-words .ensures) (called .write-words .ensures)
 
 pub y86-peaks-spec : {M : Type 1} → statement M
 y86-peaks-spec =
