@@ -2,9 +2,11 @@
 
 use crate::bench::Once;
 use crate::inspect::Asked;
+use crate::judge;
 use crate::listing;
 use crate::Fault;
 use std::ffi::{OsStr, OsString};
+use std::path::PathBuf;
 
 /// The size of memory where none is given: the most that document 01 has.
 const SIZE: u64 = 4_096;
@@ -13,6 +15,7 @@ pub enum Command {
     Help,
     Replay(Asked),
     Read(listing::Asked),
+    Peaks(judge::Asked),
     Bench,
     Instructions,
     /// One replay without a time, for `bench --instructions` to count.
@@ -25,44 +28,32 @@ pub fn read(words: Vec<OsString>) -> Result<Command, Fault> {
         return Ok(Command::Help);
     }
     let Some((first, rest)) = words.split_first() else {
-        return Err(usage("a command is missing: replay, read or bench"));
+        return Err(usage("a command is missing: replay, read, peaks or bench"));
     };
     match first.to_str() {
         Some("replay") => replay(rest).map(Command::Replay),
         Some("read") => read_listing(rest).map(Command::Read),
+        Some("peaks") => peaks(rest).map(Command::Peaks),
         Some("bench") => bench(rest),
         _ => Err(usage(format!(
-            "{} is no command; there are replay, read and bench",
+            "{} is no command; there are replay, read, peaks and bench",
             shown(first)
         ))),
     }
 }
 
-/// The words after `desk replay`, in any order.
+/// The words after `desk replay`.
 fn replay(words: &[OsString]) -> Result<Asked, Fault> {
     let mut options = Options::default();
-    let mut words = words.iter();
-    while let Some(word) = words.next() {
-        match word.to_str() {
-            Some("--second") => once("--second", options.second.replace(()))?,
-            Some("--listing") => once("--listing", options.listing.replace(()))?,
-            Some(name) if name.starts_with("--") => {
-                let (name, joined) = split(name);
-                let place = options.named(name)?;
-                let value = joined.or_else(|| words.next().cloned());
-                let value = value.ok_or_else(|| usage(format!("{name} wants a value")))?;
-                once(name, place.replace(value))?;
-            }
-            _ => {
-                let earlier = options.image.replace(word.clone());
-                if earlier.is_some() {
-                    let second = shown(word);
-                    return Err(usage(format!("one image at a time: {second} is another")));
-                }
-            }
-        }
-    }
-    options.asked()
+    options.take("replay", words)?;
+    options.replay()
+}
+
+/// The words after `desk peaks`.
+fn peaks(words: &[OsString]) -> Result<judge::Asked, Fault> {
+    let mut options = Options::default();
+    options.take("peaks", words)?;
+    options.peaks()
 }
 
 /// The words after `desk read`, in any order.
@@ -103,7 +94,7 @@ fn split(word: &str) -> (&str, Option<OsString>) {
     }
 }
 
-/// The words of one `desk replay`, by their place.
+/// The words of one `desk replay` or `desk peaks`, by their place.
 #[derive(Default)]
 struct Options {
     image: Option<OsString>,
@@ -113,36 +104,92 @@ struct Options {
     registers: Option<OsString>,
     size: Option<OsString>,
     listing: Option<()>,
+    table: Option<OsString>,
+    length: Option<OsString>,
+    filed: Option<OsString>,
     second: Option<()>,
 }
 
 impl Options {
-    /// The place of an option that has a value.
-    fn named(&mut self, name: &str) -> Result<&mut Option<OsString>, Fault> {
-        match name {
-            "--start" => Ok(&mut self.start),
-            "--codes" => Ok(&mut self.codes),
-            "--budget" => Ok(&mut self.budget),
-            "--registers" => Ok(&mut self.registers),
-            "--size" => Ok(&mut self.size),
-            _ => Err(usage(format!("{name} is no option of replay"))),
+    /// The words after a command, in any order.
+    fn take(&mut self, command: &str, words: &[OsString]) -> Result<(), Fault> {
+        let mut words = words.iter();
+        while let Some(word) = words.next() {
+            match word.to_str() {
+                Some("--second") => once("--second", self.second.replace(()))?,
+                Some("--listing") => once("--listing", self.listing.replace(()))?,
+                Some(name) if name.starts_with("--") => {
+                    let (name, joined) = split(name);
+                    let place = self.named(command, name)?;
+                    let value = joined.or_else(|| words.next().cloned());
+                    let value = value.ok_or_else(|| usage(format!("{name} wants a value")))?;
+                    once(name, place.replace(value))?;
+                }
+                _ => {
+                    let earlier = self.image.replace(word.clone());
+                    if earlier.is_some() {
+                        let second = shown(word);
+                        return Err(usage(format!("one image at a time: {second} is another")));
+                    }
+                }
+            }
+        }
+        Ok(())
+    }
+
+    /// The place of an option of a command that has a value.
+    fn named(&mut self, command: &str, name: &str) -> Result<&mut Option<OsString>, Fault> {
+        match (command, name) {
+            (_, "--size") => Ok(&mut self.size),
+            ("replay", "--start") => Ok(&mut self.start),
+            ("replay", "--codes") => Ok(&mut self.codes),
+            ("replay", "--budget") => Ok(&mut self.budget),
+            ("replay", "--registers") => Ok(&mut self.registers),
+            ("peaks", "--table") => Ok(&mut self.table),
+            ("peaks", "--length") => Ok(&mut self.length),
+            ("peaks", "--filed") => Ok(&mut self.filed),
+            _ => Err(usage(format!("{name} is no option of {command}"))),
         }
     }
 
-    /// What is asked for; options not given have the values of y86run.
-    fn asked(self) -> Result<Asked, Fault> {
-        let image = self
-            .image
-            .ok_or_else(|| usage("replay wants an image: a file of 1 to 4,096 raw bytes"))?;
+    fn image(&mut self, command: &str) -> Result<PathBuf, Fault> {
+        let wanted = || {
+            usage(format!(
+                "{command} wants an image: a file of 1 to 4,096 raw bytes"
+            ))
+        };
+        self.image.take().map(Into::into).ok_or_else(wanted)
+    }
+
+    /// Where the image is a listing: the size of memory.
+    fn listing(&mut self) -> Result<Option<u64>, Fault> {
         if self.size.is_some() && self.listing.is_none() {
             return Err(usage(
                 "--size is for a listing: a raw image has its own size",
             ));
         }
-        let size = number_or("--size", self.size, SIZE)?;
+        let size = number_or("--size", self.size.take(), SIZE)?;
+        Ok(self.listing.map(|()| size))
+    }
+
+    /// The day that is asked for: none of its numbers can be left out.
+    fn peaks(mut self) -> Result<judge::Asked, Fault> {
+        Ok(judge::Asked {
+            image: self.image("peaks")?,
+            listing: self.listing()?,
+            table: wanted("--table", self.table)?,
+            length: wanted("--length", self.length)?,
+            filed: wanted("--filed", self.filed)?,
+            second: self.second.is_some(),
+        })
+    }
+
+    /// The replay that is asked for; options not given have the values of
+    /// y86run.
+    fn replay(mut self) -> Result<Asked, Fault> {
         Ok(Asked {
-            image: image.into(),
-            listing: self.listing.map(|()| size),
+            image: self.image("replay")?,
+            listing: self.listing()?,
             registers: self.registers.map(Into::into),
             start: number_or("--start", self.start, 0)?,
             codes: number_or("--codes", self.codes, 4)?,
@@ -175,6 +222,11 @@ fn once<T>(name: &str, earlier: Option<T>) -> Result<(), Fault> {
         None => Ok(()),
         Some(_) => Err(usage(format!("{name} is given twice"))),
     }
+}
+
+fn wanted(name: &str, word: Option<OsString>) -> Result<u64, Fault> {
+    let word = word.ok_or_else(|| usage(format!("peaks wants {name} and a number")))?;
+    number(name, &word)
 }
 
 fn number_or(name: &str, word: Option<OsString>, otherwise: u64) -> Result<u64, Fault> {

@@ -24,6 +24,16 @@ extern "C" {
         fault: *mut u8,
         fault_length: usize,
     ) -> u64;
+
+    fn y86_peaks(
+        memory: *const u8,
+        memory_length: usize,
+        result: *mut u8,
+        result_length: usize,
+        table: u64,
+        length: u64,
+        filed: u64,
+    ) -> u64;
 }
 
 /// One pipelined run without logs from a fresh start, as document 01's host
@@ -74,6 +84,24 @@ pub fn read_listing(text: &[u8], memory: &mut [u8], fault: &mut [u8]) -> u64 {
     }
 }
 
+/// A day's table of words against the filed peak, both by their addresses in a
+/// final memory (#114). Seven result words; answers 0 or the number of the
+/// refusal, which changes nothing.
+pub fn peaks(memory: &[u8], result: &mut [u8], table: u64, length: u64, filed: u64) -> u64 {
+    // SAFETY: as above; memory is only read.
+    unsafe {
+        y86_peaks(
+            memory.as_ptr(),
+            memory.len(),
+            result.as_mut_ptr(),
+            result.len(),
+            table,
+            length,
+            filed,
+        )
+    }
+}
+
 /// A reader of listings through the edge, or one that takes and leaves the same.
 pub type ReadListing = fn(&[u8], &mut [u8], &mut [u8]) -> u64;
 
@@ -116,11 +144,7 @@ pub fn outcome(
 impl Outcome {
     /// The words of a result block.
     pub fn read(block: &[u8; 40]) -> Outcome {
-        let mut words = [0; 5];
-        for (word, bytes) in words.iter_mut().zip(block.chunks_exact(8)) {
-            *word = bytes.iter().rev().fold(0, |w, b| w << 8 | u64::from(*b));
-        }
-        let [status, last, codes, retired, cycles] = words;
+        let [status, last, codes, retired, cycles] = words(block);
         Outcome {
             status,
             last,
@@ -129,4 +153,13 @@ impl Outcome {
             cycles,
         }
     }
+}
+
+/// The words of a block, least byte first.
+pub fn words<const N: usize>(block: &[u8]) -> [u64; N] {
+    let mut words = [0; N];
+    for (word, bytes) in words.iter_mut().zip(block.chunks_exact(8)) {
+        *word = bytes.iter().rev().fold(0, |w, b| w << 8 | u64::from(*b));
+    }
+    words
 }

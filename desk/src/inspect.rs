@@ -34,10 +34,7 @@ pub struct Source {
 
 /// The text to show for a replay, and the exit status.
 pub fn replay(asked: &Asked) -> Result<(String, u8), Fault> {
-    let image = match asked.listing {
-        Some(size) => listing::image(&asked.image, size)?,
-        None => Source::read(&asked.image, MEMORY_LIMIT)?,
-    };
+    let image = Source::image(&asked.image, asked.listing)?;
     let given = match &asked.registers {
         Some(path) => Source::read(path, REGISTER_BYTES)?,
         None => Source::zeros(REGISTER_BYTES),
@@ -83,6 +80,14 @@ fn refusal(number: u64, asked: &Asked, image: &Source, registers: &Source) -> St
 }
 
 impl Source {
+    /// An image: raw, or a listing for a memory of this size.
+    pub fn image(path: &Path, listing: Option<u64>) -> Result<Source, Fault> {
+        match listing {
+            Some(size) => listing::image(path, size),
+            None => Source::read(path, MEMORY_LIMIT),
+        }
+    }
+
     pub fn read(path: &Path, most: usize) -> Result<Source, Fault> {
         let name = path.display().to_string();
         let fault = |why: String| Fault::new(Fault::FILE, format!("cannot read {name}: {why}"));

@@ -3,6 +3,7 @@
 mod arguments;
 mod bench;
 mod inspect;
+mod judge;
 mod listing;
 mod report;
 
@@ -17,6 +18,9 @@ usage:
   desk replay IMAGE [options]   replay an image and show what it left
   desk read LISTING -o IMAGE [--size N]
                                 read a listing and write its raw image
+  desk peaks IMAGE --table A --length L --filed P
+                                replay it, and hold the filed peak against the
+                                largest good sample of the day
   desk bench                    time the engine against the second program
   desk bench --instructions     count both engines' instructions (by valgrind)
   desk --help                   this text
@@ -30,7 +34,8 @@ without overlap. Bytes that no line names are 0.
 
 options for a listing:
   --size N           how many bytes of memory the image has (4096)
-  --listing          of replay: IMAGE is a listing (with --size, if wanted)
+  --listing          of replay and peaks: IMAGE is a listing (with --size, if
+                     wanted)
 
 options of replay:
   --start A          the address to start from (0)
@@ -50,12 +55,19 @@ from address 0 on, least byte first; the last has what is left). Where the
 budget was spent, instructions are on their way: memory and codes can be ahead
 of the registers.
 
-exit status:
+peaks replays the image as y86run does. A is the address of the day's table of
+L words, 1 to 1,440, and P the address of the filed peak, in the final memory. A
+word below 2^32 is a good sample, any other a failed one. --second gives a second
+opinion. Exit status: 0 at the raw peak, 1 below it, 2 above it, 3 cannot be
+compared, 4 no good sample.
+
+exit status of replay:
   0  HLT: the image halted
   1  AOK: the budget was spent before a stop
   2  ADR: an address outside memory
   3  INS: bytes that are no instruction
-  10 refused: nothing was replayed, and the message says why, with the number
+of all:
+  10 refused: the message says why, with the number
   64 the command was at fault        66 a file could not be read
   69 bench: valgrind did not run     74 the output could not be written
 ";
@@ -101,6 +113,10 @@ fn perform(command: Command) -> Result<u8, Fault> {
             say(&text).map(|()| status)
         }
         Command::Read(asked) => say(&listing::read(&asked)?).map(|()| 0),
+        Command::Peaks(asked) => {
+            let (text, status) = judge::day(&asked)?;
+            say(&text).map(|()| status)
+        }
         Command::Bench => bench::times().map(|()| 0),
         Command::Instructions => bench::instructions::count().map(|()| 0),
         Command::Once(once) => once.run().map(|()| 0),

@@ -34,7 +34,8 @@ pub fn text(outcome: &Outcome, before: &Before, memory: &[u8], registers: &[u8])
     text
 }
 
-fn status(number: u64, budget: u64) -> String {
+/// A status in words.
+pub fn status(number: u64, budget: u64) -> String {
     match number {
         1 => format!("AOK (1): the budget of {budget} cycles was spent before a stop"),
         2 => "HLT (2): the image halted".into(),

@@ -174,8 +174,8 @@ fn commands_at_fault_are_explained() {
     }
     fault(&bad("18446744073709551616"), 64, &["64 bits"]);
     fault(&bad("0x10000000000000000"), 64, &["64 bits"]);
-    fault(&[], 64, &["replay, read or bench"]);
-    fault(&["play"], 64, &["'play'", "replay, read and bench"]);
+    fault(&[], 64, &["replay, read, peaks or bench"]);
+    fault(&["play"], 64, &["'play'", "replay, read, peaks and bench"]);
     fault(&["replay"], 64, &["image"]);
     fault(&["replay", &image, &image], 64, &["one image"]);
     fault(
@@ -311,4 +311,85 @@ fn output_that_cannot_be_written_is_a_fault() {
     assert!(output
         .stderr
         .starts_with(b"desk: the output could not be written"));
+}
+
+/// An image that halts at once, a day of three words at 8 and a filed peak at
+/// 32.
+fn day(samples: [u64; 3], filed: u64) -> Vec<u8> {
+    let words = [0, samples[0], samples[1], samples[2], filed];
+    words.iter().flat_map(|word| word.to_le_bytes()).collect()
+}
+
+#[test]
+fn a_filed_peak_gets_a_verdict() {
+    let cases = [
+        ("at", day([3, 9, 9], 9), 0, "is AT the raw peak"),
+        (
+            "below",
+            day([3, 9, 9], 7),
+            1,
+            "is BELOW the raw peak 9, by 2",
+        ),
+        (
+            "above",
+            day([3, 9, 9], 10),
+            2,
+            "is ABOVE the raw peak 9, by 1",
+        ),
+        ("huge", day([3, 9, 9], 1 << 32), 3, "cannot be compared"),
+        ("none", day([1 << 32; 3], 9), 4, "no sample is good"),
+    ];
+    for (name, image, status, says) in cases {
+        let image = file(&format!("day_{name}.img"), &image);
+        let words = [
+            "peaks",
+            &image,
+            "--table",
+            "8",
+            "--length",
+            "3",
+            "--filed=0x20",
+        ];
+        let (code, output, message) = said(&words);
+        assert_eq!((code, message.as_str()), (status, ""), "{name}");
+        assert!(output.contains(says), "{output}");
+        assert!(output.starts_with("status   HLT (2)"), "{output}");
+        let second = said(&[&words[..], &["--second"]].concat());
+        assert_eq!(second, (code, output, message), "{name}, a second opinion");
+    }
+}
+
+#[test]
+fn a_day_that_cannot_be_judged_is_refused() {
+    let image = file("day.img", &day([3, 9, 9], 9));
+    let asks = |table, length, filed| {
+        [
+            "peaks", &image, "--table", table, "--length", length, "--filed", filed,
+        ]
+    };
+    fault(
+        &asks("8", "0", "32"),
+        10,
+        &["refused (1)", "1 to 1440 words"],
+    );
+    fault(&asks("8", "5", "32"), 10, &["refused (2)", "40 bytes"]);
+    fault(&asks("8", "3", "33"), 10, &["refused (3)", "at 33"]);
+    fault(&asks("8", "three", "32"), 64, &["--length 'three'"]);
+    fault(
+        &["peaks", &image, "--table", "8", "--filed", "32"],
+        64,
+        &["wants --length"],
+    );
+    fault(
+        &["peaks", &image, "--start", "8"],
+        64,
+        &["no option of peaks"],
+    );
+    fault(&["peaks", "--table", "8"], 64, &["wants an image"]);
+    let empty = file("empty_day.img", &[]);
+    fault(
+        &["peaks", &empty, "--table=0", "--length=1", "--filed=0"],
+        10,
+        &["refused (5)", "0 bytes"],
+    );
 }

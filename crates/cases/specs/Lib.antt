@@ -12,3 +12,4 @@ pub mod Listings
 pub mod Single
 pub mod Wrong
 pub mod Edge
+pub mod Days

@@ -9,7 +9,10 @@ use Rattle.machine.specs.Plain.{plainStart}
 use Rattle.machine.specs.Pipeline.{pipeStart}
 use Rattle.machine.specs.Runs.{fetchAnswer, PlainAnswer, PipeAnswer, plainStep, plainRun, pipeClock, pipeRun, pipeRunUnlogged}
 use Rattle.account.specs.Statement.{Start}
+use Rattle.peaks.specs.declared.Answer.{Answer}
+use Rattle.peaks.specs.Day.{judged}
 use Rattle.edge.specs.Edge.{Edge, replayed}
+use Rattle.edge.specs.Days.{DayAt, dayAnswer}
 use Rattle.together.specs.Both.{BothAnswer, bothRuns}
 use Rattle.cases.specs.Names.{Codes, FetchAnswer, Machine, Pipeline}
 
@@ -72,3 +75,11 @@ host-edge =
 abbrev pub run-both : Operation
 run-both =
     promising (Start × Memory × ℕ × ℕ × List ℕ × List ℕ × List ℕ) BothAnswer (λ x. bothRuns (x .0) (x .1) (x .2) (x .3) (x .4) (x .5) (x .6))
+
+-- peaks::judge: a final memory, the address and the length of a day's table, and the address of the filed peak
+abbrev pub day-judged : Operation
+day-judged = promising (Memory × ℕ × ℕ × ℕ) Answer (λ x. judged (x .0) (x .1) (x .2) (x .3))
+
+-- edge::y86_peaks: the same with the result block as lent
+abbrev pub day-exported : Operation
+day-exported = promising (Memory × List ℕ × ℕ × ℕ × ℕ) DayAt (λ x. dayAnswer (x .0) (x .1) (x .2) (x .3) (x .4))

@@ -1,3 +1,4 @@
 pub mod Blocks
 pub mod Ways
 pub mod Faults
+pub mod Judging

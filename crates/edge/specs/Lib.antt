@@ -1,3 +1,4 @@
 pub mod Edge
 pub mod Checked
 pub mod Listings
+pub mod Days

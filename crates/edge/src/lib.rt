@@ -1,4 +1,5 @@
 // The host edge: exported functions on byte slices and numbers.
+mod days;
 mod listings;
 
 pub use listings::y86_read_listing;

@@ -18,7 +18,7 @@ ghost use Rattle.report.specs.Report.{countLines, kindLines, endLines, r
 // The registers' names, three bytes each.
 const NAMES: [u8; 45] = *b"raxrcxrdxrbxrsprbprsirdir8 r9 r10r11r12r13r14";
 
-fn put_number(buffer: &mut [u8], at: usize, name: &[u8], v: u64) -> usize
+pub fn put_number(buffer: &mut [u8], at: usize, name: &[u8], v: u64) -> usize
     requires { ⌜ at + length (now name) + 22 < 2 ^ 64 ⌝ }
     ensures { λ r. ⌜ Put (line (now (name .entry)) (decimal v)) at (now (buffer .entry)) r (now (buffer .exit)) ⌝ }
     ensures { λ r. ⌜ r ≤ at + length (now (name .entry)) + 22 ⌝ }

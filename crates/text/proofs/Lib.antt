@@ -1,3 +1,4 @@
 pub mod Ways
 pub mod Digits
 pub mod Places
+pub mod Fields

@@ -5,3 +5,5 @@ pub mod Hex
 pub mod HexLaws
 pub mod Parts
 pub mod PartsLaws
+pub mod Field
+pub mod ReadBack

@@ -13,6 +13,7 @@ mod flow;
 pub mod letter;
 pub mod listing;
 pub mod machine;
+pub mod peaks;
 pub mod pipeline;
 pub mod plain;
 pub mod replay;

@@ -6,11 +6,11 @@ use borrow.Author.Needs.{needs}
 use Rattle.y86run.proofs.main.Statement.{statement}
 use Rattle.y86run.proofs.main.Tie as tie
 
-slice-aggregate-read-image : tie.Need-slice-aggregate-read-image
-slice-aggregate-read-image c = search needs
+slice-aggregate-read-input : tie.Need-slice-aggregate-read-input
+slice-aggregate-read-input c = search needs
 
-read-image-requires : tie.Need-read-image-requires
-read-image-requires c κs = search needs
+read-input-requires : tie.Need-read-input-requires
+read-input-requires c κs = search needs
 
 slice-aggregate-write-all : tie.Need-slice-aggregate-write-all
 slice-aggregate-write-all c = search needs
@@ -55,8 +55,8 @@ pub main-spec : {M : Type 1} → statement M
 main-spec =
     tie.close
     (tie.spec
-    slice-aggregate-read-image
-    read-image-requires
+    slice-aggregate-read-input
+    read-input-requires
     slice-aggregate-write-all
     write-all-requires
     returns

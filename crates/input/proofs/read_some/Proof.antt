@@ -2,8 +2,8 @@
 use mathlib.Core.Path.{_≡_}
 use lib.ListN.{length}
 use borrow.Author.Needs.{needs}
-use Rattle.y86run.proofs.read_some.Statement.{statement}
-use Rattle.y86run.proofs.read_some.Tie as tie
+use Rattle.input.proofs.read_some.Statement.{statement}
+use Rattle.input.proofs.read_some.Tie as tie
 
 abbrev Inv-loop : tie.InvT-loop
 Inv-loop buffer₀ tries₀ buffer tries = length buffer ≡ length buffer₀

@@ -1,0 +1,59 @@
+-- #114's "second program": what it answers, whatever bytes it read.
+use Prim.Native.Nat.{ℕ}
+use mathlib.Core.Bool.{Bool, true, cond, _||_}
+use mathlib.Core.List.{List, _++_}
+use lib.Dec.{eqb, ltb}
+use lib.ListN.{length, take, drop}
+use Rattle.machine.specs.Memory.{Memory}
+use Rattle.peaks.specs.declared.Answer.{Answer}
+use Rattle.peaks.specs.declared.Answer.the-variants.{Refused as refused, Judged as judgedAs}
+use Rattle.peaks.specs.Day.{judged}
+use Rattle.peaks.specs.Division.{meanIsNumber}
+use Rattle.report.specs.Report.{numberLine, imageRun}
+use Rattle.dayreport.specs.declared.line.Request.{Request}
+use Rattle.dayreport.specs.declared.line.FirstLine.{FirstLine}
+use Rattle.dayreport.specs.declared.line.FirstLine.the-variants.{BadLine as badLine, Asks as asks}
+use Rattle.dayreport.specs.Line.{firstLine}
+use Rattle.dayreport.specs.Lines.{answerLines}
+
+-- the mean of an answer, where it has one, is a number
+unfoldable pub answerNumbered : Answer → Bool
+answerNumbered (refused k) = true
+answerNumbered (judgedAs d) = meanIsNumber (d .found)
+
+-- "5 for an image that 01's refusal 1 meets": it is empty, or longer than the 4,096 bytes that the program holds
+unfoldable pub imageRefused : ℕ → Bool
+imageRefused size = eqb size 0 || ltb 4096 size
+
+-- THE DAY of the final memory of the pipelined run
+unfoldable pub dayAnswer : Request → Memory → Answer
+dayAnswer q image = judged (imageRun image .memory) (q .table) (q .length) (q .filed)
+
+-- the bytes written for a request and the image behind it
+unfoldable pub requestText : Request → Memory → List ℕ
+requestText q image = cond (imageRefused (length image)) (numberLine "refused" 5) (answerLines (dayAnswer q image))
+
+-- what the image's bytes are afterwards
+unfoldable pub imageLeft : Memory → Memory
+imageLeft image = cond (imageRefused (length image)) image (imageRun image .memory)
+
+-- how many bytes are written, the buffer that they stand in, and the image
+unfoldable pub requested : Request → Memory → List ℕ → ℕ × List ℕ × Memory
+requested q image out = (length (requestText q image), requestText q image ++ drop (length (requestText q image)) out, imageLeft image)
+
+-- "4 for a bad first line"; the image begins behind a good one
+unfoldable pub inputText : List ℕ → FirstLine → List ℕ
+inputText input badLine = numberLine "refused" 4
+inputText input (asks q) = requestText q (drop (q .image) input)
+
+unfoldable pub inputLeft : List ℕ → FirstLine → List ℕ
+inputLeft input badLine = input
+inputLeft input (asks q) = take (q .image) input ++ imageLeft (drop (q .image) input)
+
+-- THE BYTES THAT ARE WRITTEN for the bytes that were read
+unfoldable pub writtenFor : List ℕ → List ℕ
+writtenFor input = inputText input (firstLine input)
+
+-- with their number, the rest of the buffer, and what is left of the bytes read
+unfoldable pub answeredInput : List ℕ → List ℕ → ℕ × List ℕ × List ℕ
+answeredInput input out = (length (writtenFor input), writtenFor input ++ drop (length (writtenFor input)) out, inputLeft input (firstLine input))

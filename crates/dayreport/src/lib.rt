@@ -1,0 +1,86 @@
+// #114's second program from the bytes read to the bytes written: its first line, the replay of the image behind it, and the lines of the day.
+mod line;
+mod lines;
+
+use crate::line::FirstLine;
+use crate::line::Request;
+use crate::line::read_line;
+use crate::lines::put_day;
+use machine::Codes;
+use peaks::Answer;
+use report::put_number;
+ghost use mathlib.Core.Path.{_≡_};
+ghost use mathlib.Core.Bool.{cond};
+ghost use mathlib.Core.List.{List};
+ghost use Prim.Native.Nat.{ℕ, _≤_};
+ghost use lib.Dec.{T};
+ghost use lib.ListN.{length};
+ghost use Rattle.peaks.specs.Division.{meanIsNumber};
+ghost use Rattle.report.specs.Report.{numberLine, imageRun};
+ghost use Rattle.text.specs.Put.{written};
+ghost use Rattle.dayreport.specs.Lines.{answerLines};
+ghost use Rattle.dayreport.specs.Program.{answerNumbered, imageRefused, requested, answeredInput};
+
+// No answer is longer than 144 bytes, so that it always fits.
+fn write_refusal(number: u64, out: &mut [u8; 144]) -> usize
+    ensures { λ r. ⌜ _≡_ {A = ℕ × List ℕ} (r, now (out .exit)) (written (numberLine "refused" number) (now (out .entry))) ⌝ }
+{
+    put_number(out, 0, b"refused", number)
+}
+
+fn write_answer(answer: Answer, out: &mut [u8; 144]) -> usize
+    requires { ⌜ T (answerNumbered answer) ⌝ }
+    ensures { λ r. ⌜ _≡_ {A = ℕ × List ℕ} (r, now (out .exit)) (written (answerLines answer) (now (out .entry))) ⌝ }
+{
+    match answer {
+        Answer::Refused(number) => write_refusal(number, out),
+        Answer::Judged(day) => put_day(out, 0, day),
+    }
+}
+
+// "replays it as the first program does": registers 0, codes ZF=1, start 0, budget 4,000 cycles.
+fn replay(image: &mut [u8])
+    ensures { λ _. ⌜ now (image .exit) ≡ imageRun (now (image .entry)) .memory ⌝ }
+{
+    let codes = Codes {
+        zf: true,
+        sf: false,
+        of: false,
+    };
+    let fresh = pipe::start([0u64; 15], codes, 0);
+    pipe::run_unlogged(fresh, image, 4000);
+}
+
+fn image_refused(size: usize) -> bool
+    ensures { λ r. ⌜ r ≡ imageRefused size ⌝ }
+{
+    (size == 0) | (4096 < size)
+}
+
+// The image, which stands behind the first line, and the day that is asked for.
+fn report_request(request: Request, image: &mut [u8], out: &mut [u8; 144]) -> usize
+    ensures { λ r. ⌜ _≡_ {A = ℕ × List ℕ × List ℕ} (r, now (out .exit), now (image .exit)) (requested request (now (image .entry)) (now (out .entry))) ⌝ }
+{
+    if image_refused(image.len()) {
+        return write_refusal(5, out);
+    }
+    replay(image);
+    write_answer(
+        peaks::judge(image, request.table, request.length, request.filed),
+        out,
+    )
+}
+
+// Whatever bytes were read: how many bytes are written, these, and what is left of the bytes read.
+pub fn report_input(input: &mut [u8], out: &mut [u8; 144]) -> usize
+    ensures { λ r. ⌜ _≡_ {A = ℕ × List ℕ × List ℕ} (r, now (out .exit), now (input .exit)) (answeredInput (now (input .entry)) (now (out .entry))) ⌝ }
+{
+    let first = read_line(input);
+    match first {
+        FirstLine::BadLine => write_refusal(4, out),
+        FirstLine::Asks(request) => {
+            let at = request.image;
+            report_request(request, &mut input[at..], out)
+        }
+    }
+}
