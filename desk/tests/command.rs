@@ -360,6 +360,22 @@ fn a_filed_peak_gets_a_verdict() {
 }
 
 #[test]
+fn a_day_may_come_as_a_listing() {
+    let raw = file("day_raw.img", &day([3, 9, 9], 7));
+    let listing = file("day.lst", b"8\t03\n10\t09\tthe peak\n18\t09\n20\t07\n");
+    let asks = ["--table=8", "--length=3", "--filed=32"];
+    let given = ["peaks", &listing, "--listing", "--size=40"];
+    let judged = said(&[&given[..], &asks].concat());
+    assert_eq!(judged, said(&[&["peaks", &raw][..], &asks].concat()));
+    assert_eq!(judged.0, 1);
+    fault(
+        &[&["peaks", &raw, "--size=40"][..], &asks].concat(),
+        64,
+        &["--size is for a listing"],
+    );
+}
+
+#[test]
 fn a_day_that_cannot_be_judged_is_refused() {
     let image = file("day.img", &day([3, 9, 9], 9));
     let asks = |table, length, filed| {

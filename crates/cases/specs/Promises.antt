@@ -13,6 +13,7 @@ use Rattle.peaks.specs.declared.Answer.{Answer}
 use Rattle.peaks.specs.Day.{judged}
 use Rattle.edge.specs.Edge.{Edge, replayed}
 use Rattle.edge.specs.Days.{DayAt, dayAnswer}
+use Rattle.dayreport.specs.Program.{answeredInput}
 use Rattle.together.specs.Both.{BothAnswer, bothRuns}
 use Rattle.cases.specs.Names.{Codes, FetchAnswer, Machine, Pipeline}
 
@@ -83,3 +84,7 @@ day-judged = promising (Memory × ℕ × ℕ × ℕ) Answer (λ x. judged (x .0)
 -- edge::y86_peaks: the same with the result block as lent
 abbrev pub day-exported : Operation
 day-exported = promising (Memory × List ℕ × ℕ × ℕ × ℕ) DayAt (λ x. dayAnswer (x .0) (x .1) (x .2) (x .3) (x .4))
+
+-- dayreport::report_input: the bytes read and the buffer; how many bytes are written, the buffer, and what is left of the bytes read
+abbrev pub input-reported : Operation
+input-reported = promising (List ℕ × List ℕ) (ℕ × List ℕ × List ℕ) (λ x. answeredInput (x .0) (x .1))

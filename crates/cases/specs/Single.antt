@@ -6,7 +6,7 @@ use Rattle.machine.specs.Memory.{Memory}
 use Rattle.machine.specs.Runs.{plainAnswer, pipeAnswer}
 use Rattle.edge.specs.Edge.{edge}
 use Rattle.cases.specs.Names.{Machine, Pipeline}
-use Rattle.cases.specs.Promises.{Operation, Fits, Promise, fetching, plain-start, plain-step, plain-run, pipe-start, pipe-clock, pipe-run, pipe-run-unlogged, host-edge, run-both, day-judged, day-exported}
+use Rattle.cases.specs.Promises.{Operation, Fits, Promise, fetching, plain-start, plain-step, plain-run, pipe-start, pipe-clock, pipe-run, pipe-run-unlogged, host-edge, run-both, day-judged, day-exported, input-reported}
 
 -- two answers that both meet the promise for the same input are equal: number, record, all lent bytes and words
 abbrev pub OneAnswer : Operation → Type 0
@@ -54,6 +54,9 @@ one-day-judged = one-answer day-judged
 
 pub one-day-exported : OneAnswer day-exported
 one-day-exported = one-answer day-exported
+
+pub one-input-reported : OneAnswer input-reported
+one-input-reported = one-answer input-reported
 
 -- what equal answers have in common, part by part
 pub same-plain : {n i : ℕ} {k j : Machine} {m u : Memory} {l v : List ℕ} → plainAnswer n k m l ≡ plainAnswer i j u v → (n ≡ i) × (k ≡ j) × (m ≡ u) × (l ≡ v)

@@ -4,7 +4,7 @@ use Prim.Native.Nat.{ℕ, _+_, _^_, _≤_, _<_}
 use native.Mathlib.Omega.{arith}
 use mathlib.Core.Bool.{false}
 use mathlib.Core.List.{List, [], _∷_, _++_, append-assoc}
-use mathlib.Core.Path.{_≡_, refl, sym, ap, _∙_}
+use mathlib.Core.Path.{_≡_, refl, ap}
 use lib.Dec.{eqb, ltb}
 use lib.ListN.{length, length-append}
 use Rattle.machine.specs.Memory.{Memory}
@@ -32,10 +32,6 @@ never-refused image h =
 pub handed-over : (input out out′ input′ : List ℕ) (n : ℕ) → _≡_ {A = ℕ × List ℕ × List ℕ} (n, out′, input′) (answeredInput input out) → n ≤ length out′
 unfolding answeredInput
 handed-over input out out′ input′ n e = written-within (writtenFor input) out out′ n (ap (λ (x : ℕ × List ℕ × List ℕ). (x .0, x .1)) e)
-
--- ONE ANSWER ONLY: two that meet the promise are equal
-pub one-answer : (input out : List ℕ) (a b : ℕ × List ℕ × List ℕ) → a ≡ answeredInput input out → b ≡ answeredInput input out → a ≡ b
-one-answer input out a b p q = p ∙ sym q
 
 -- READ BACK
 read-at : (t front : List ℕ) (n end : ℕ) (rest : List ℕ) (k : ℕ) → n < 2 ^ 64 → isDigit end ≡ false → t ≡ front ++ (decimal n ++ end ∷ rest) → k ≡ length front

@@ -2,6 +2,7 @@
 mod days;
 mod listings;
 
+pub use days::y86_peaks;
 pub use listings::y86_read_listing;
 use machine::Codes;
 use machine::PIPE_LIMIT;

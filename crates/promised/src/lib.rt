@@ -8,6 +8,7 @@ use machine::REGISTERS;
 ghost use mathlib.Core.List.{[]};
 ghost use Rattle.machine.specs.Runs.{plainAnswer, pipeAnswer};
 ghost use Rattle.listing.specs.Reading.{answered};
+ghost use Rattle.edge.specs.Days.{dayAt};
 ghost use Rattle.edge.specs.Edge.{edge};
 ghost use Rattle.edge.specs.Listings.{listingEdge};
 ghost use Rattle.together.specs.Both.{startOf, bothAnswer};
@@ -15,6 +16,7 @@ ghost use Rattle.cases.specs.Promises.{Fits, fetching, plain-start, plain-step,
 ghost use Rattle.cases.specs.Listings.{listing-read, edge-listing};
 ghost use Rattle.cases.specs.Program.{report-image, write-report};
 ghost use Rattle.cases.specs.Promises.{pipe-start, pipe-clock, pipe-run, pipe-run-unlogged, host-edge, run-both};
+ghost use Rattle.cases.specs.Promises.{day-judged, day-exported, input-reported};
 
 fn fetch(memory: &[u8], address: u64) -> FetchAnswer
     ensures { λ r. ⌜ Fits fetching (now (memory .entry), address) r ⌝ }
@@ -147,4 +149,22 @@ fn edge_listing(text: &[u8], memory: &mut [u8], fault: &mut [u8]) -> u64
         (listingEdge r (now (memory .exit)) (now (fault .exit))) ⌝ }
 {
     edge::y86_read_listing(text, memory, fault)
+}
+
+fn day_judged(memory: &[u8], table: u64, length: u64, filed: u64) -> peaks::Answer
+    ensures { λ r. ⌜ Fits day-judged (now (memory .entry), table, length, filed) r ⌝ }
+{
+    peaks::judge(memory, table, length, filed)
+}
+
+fn day_exported(memory: &[u8], result: &mut [u8], table: u64, length: u64, filed: u64) -> u64
+    ensures { λ r. ⌜ Fits day-exported (now (memory .entry), now (result .entry), table, length, filed) (dayAt r (now (result .exit))) ⌝ }
+{
+    edge::y86_peaks(memory, result, table, length, filed)
+}
+
+fn input_reported(input: &mut [u8], out: &mut [u8; 144]) -> usize
+    ensures { λ r. ⌜ Fits input-reported (now (input .entry), now (out .entry)) (r, now (out .exit), now (input .exit)) ⌝ }
+{
+    dayreport::report_input(input, out)
 }
