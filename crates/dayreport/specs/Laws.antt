@@ -1,4 +1,4 @@
--- Laws of the second program: a written first line is read back, an image that is let in is not refused, and what is handed over fits.
+-- Laws of y86peaks: a written first line is read back, an image that is let in is not refused, and what is handed over fits.
 -- Assumes nothing.
 use Prim.Native.Nat.{ℕ, _+_, _^_, _≤_, _<_}
 use native.Mathlib.Omega.{arith}

@@ -1,4 +1,4 @@
--- #114's second program: its first line, its lines, and what it answers.
+-- #114, y86peaks: its first line, its lines, and what it answers.
 pub mod Line
 pub mod Lines
 pub mod Program

@@ -1,4 +1,4 @@
--- #114's "second program": what it answers, whatever bytes it read.
+-- #114, "A second program": what y86peaks answers, whatever bytes it read.
 use Prim.Native.Nat.{ℕ}
 use mathlib.Core.Bool.{Bool, true, cond, _||_}
 use mathlib.Core.List.{List, _++_}

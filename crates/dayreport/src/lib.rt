@@ -1,4 +1,4 @@
-// #114's second program from the bytes read to the bytes written: its first line, the replay of the image behind it, and the lines of the day.
+// The program `y86peaks` (#114) from the bytes read to the bytes written: its first line, the replay of the image behind it, and the lines of the day.
 mod line;
 mod lines;
 

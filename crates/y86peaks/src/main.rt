@@ -1,4 +1,4 @@
-// The second program (#114): reads a line and a raw image from standard input, and hands over the day, which `dayreport` makes.
+// The program for filed peaks (#114): reads a line and a raw image from standard input, and hands over the day, which `dayreport` makes.
 use libc::STDERR_FILENO;
 use libc::STDOUT_FILENO;
 
