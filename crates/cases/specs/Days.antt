@@ -10,7 +10,8 @@ use Rattle.machine.specs.Memory.{inside}
 use Rattle.machine.specs.Runs.{lowest}
 use Rattle.machine.specs.Words.{signed}
 use Rattle.peaks.specs.Types.{comparisonNumber}
-use Rattle.peaks.specs.Day.{isGood, good, failed, total, largest, firstPlace, peakOf, placeOf, meanOf, meanBits, bySign, compared, rawOf, foundIn, dayOf, refusalOf}
+use Rattle.peaks.specs.Day.{isGood, good, failed, total, largest, firstPlace, peakOf, placeOf, meanOf, meanBits, bySign, compared, rawOf, foundIn}
+use Rattle.peaks.specs.Day.{dayOf, refusalOf}
 use Rattle.edge.specs.Days.{wordsOf, dayWords}
 
 unfoldable pub same : List ℕ → List ℕ → Bool

@@ -6,7 +6,8 @@ use Rattle.machine.specs.Memory.{Memory}
 use Rattle.machine.specs.Runs.{plainAnswer, pipeAnswer}
 use Rattle.edge.specs.Edge.{edge}
 use Rattle.cases.specs.Names.{Machine, Pipeline}
-use Rattle.cases.specs.Promises.{Operation, Fits, Promise, fetching, plain-start, plain-step, plain-run, pipe-start, pipe-clock, pipe-run, pipe-run-unlogged, host-edge, run-both, day-judged, day-exported, input-reported}
+use Rattle.cases.specs.Promises.{Operation, Fits, Promise, fetching, plain-start, plain-step, plain-run, pipe-start, pipe-clock, pipe-run}
+use Rattle.cases.specs.Promises.{pipe-run-unlogged, host-edge, run-both, day-judged, day-exported, input-reported}
 
 -- two answers that both meet the promise for the same input are equal: number, record, all lent bytes and words
 abbrev pub OneAnswer : Operation → Type 0

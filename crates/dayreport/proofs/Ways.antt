@@ -29,7 +29,8 @@ use Rattle.dayreport.specs.declared.line.FirstLine.{FirstLine}
 use Rattle.dayreport.specs.declared.line.FirstLine.the-variants.{BadLine as badLine, Asks as asks}
 use Rattle.dayreport.specs.Line.{firstLine}
 use Rattle.dayreport.specs.Lines.{filedLine, peakLines, totalLines, foundLines, missing, missingLines, linesOf, dayLines, answerLines}
-use Rattle.dayreport.specs.Program.{answerNumbered, imageRefused, dayAnswer, requestText, imageLeft, requested, inputText, inputLeft, writtenFor, answeredInput}
+use Rattle.dayreport.specs.Program.{answerNumbered, imageRefused, dayAnswer, requestText, imageLeft, requested, inputText, inputLeft}
+use Rattle.dayreport.specs.Program.{writtenFor, answeredInput}
 
 -- LINES
 module _ {a b c : List ℕ} {at i r : ℕ} where

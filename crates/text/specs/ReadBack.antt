@@ -42,7 +42,8 @@ first-digit [] t h d = absurd (omega arith)
 first-digit (b ∷ s) t h d = both (isDigit b) (allDigits s) d .0
 
 -- no zero stands in front of a digit
-no-zero : (n end : ℕ) (rest : List ℕ) → isDigit end ≡ false → not (eqb (getD (decimal n ++ end ∷ rest) 0 0) 48) || not (isDigit (getD (decimal n ++ end ∷ rest) 1 0)) ≡ true
+no-zero : (n end : ℕ) (rest : List ℕ) → isDigit end ≡ false
+    → not (eqb (getD (decimal n ++ end ∷ rest) 0 0) 48) || not (isDigit (getD (decimal n ++ end ∷ rest) 1 0)) ≡ true
 no-zero zero end rest h = rw (decimal-one 0 (omega arith), h)
 no-zero (suc n) end rest h =
     rw (List·getD-append (decimal (suc n)) (end ∷ rest) 0 0 (decimal-some (suc n)), ne-eqb (getD (decimal (suc n)) 0 0) 48 (λ e. omega (arith, no-leading-zero (suc n) (omega arith))))
