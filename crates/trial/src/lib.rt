@@ -1,38 +1,17 @@
 // For tests only: every entry of both engines with C linkage, on whole records in lent words, so that a test written in
 // another language can give any record, hand-made ones too, and read back the whole answer. It is no part of the
-// product: nothing that is shipped links it, and it decides nothing.
+// product: nothing that is shipped links it, and it decides nothing. What a block holds is said in `blocks_in`.
 //
 // Its functions have no contract. They are proved to stay inside what they are lent and to return; what they answer is
 // compared with the second program, word for word, and a word read from or written to a wrong place shows there.
-//
-// A block of words holds a record. A word that the block lacks reads 0, and a place that it lacks takes nothing.
-//
-//   part         words  what they hold, in this order
-//   instruction      9  a mark (0: a bubble, or none kept; 1: an instruction), address, status, code, function, rA, rB, constant, next
-//   state           20  fifteen registers, ZF, SF, OF, status, last address
-//
-//   block        words  what they hold, each with its first place
-//   machine         22  0 state, 20 program address, 21 count
-//   pipeline        81  0 predicted address; 1 D: instruction; 10 E: instruction, a, b; 21 M: instruction, a, result, holds;
-//                       33 W: instruction, result, holds, word, status; 46 state; 66 retired; 67 cycles;
-//                       68 cycles charged for load-use, mispredict, return; 71 kept: instruction, holds
-//   fetched          9  0 instruction
-//
-// A status is its number in document 01, any other word AOK. Of a word for a byte the lowest byte counts, of a word for
-// a truth value the lowest bit. Where a record has a bubble, or keeps none, only the mark is written: the words after
-// it stay as they were.
-mod layout;
-mod reading;
-mod writing;
-
-use crate::layout::STATE;
-use crate::reading::codes_in;
-use crate::reading::machine_in;
-use crate::reading::pipeline_in;
-use crate::reading::registers_in;
-use crate::writing::put_instruction;
-use crate::writing::put_machine;
-use crate::writing::put_pipeline;
+use blocks_in::layout::STATE;
+use blocks_in::reading::codes_in;
+use blocks_in::reading::machine_in;
+use blocks_in::reading::pipeline_in;
+use blocks_in::reading::registers_in;
+use blocks_out::writing::put_instruction;
+use blocks_out::writing::put_machine;
+use blocks_out::writing::put_pipeline;
 
 // The instruction at an address, into a block for one.
 #[no_mangle]
