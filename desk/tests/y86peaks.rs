@@ -137,3 +137,15 @@ fn an_image_that_is_empty_or_too_long_is_refused_next() {
         }
     }
 }
+
+#[test]
+fn an_input_that_cannot_be_read_gets_no_verdict() {
+    let repository = Path::new(env!("CARGO_MANIFEST_DIR")).join("..");
+    let folder = std::fs::File::open(&repository).expect("a folder, which no one can read from");
+    let output = Command::new(repository.join("target/bin/y86peaks"))
+        .stdin(folder)
+        .output()
+        .expect("target/bin/y86peaks");
+    assert_eq!(output.stdout, b"");
+    assert_eq!(output.stderr, b"y86peaks: standard input cannot be read\n");
+}
