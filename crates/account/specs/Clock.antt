@@ -12,11 +12,11 @@ use Rattle.machine.specs.Table.{is, ret}
 use Rattle.machine.specs.Fetch.{fetch}
 use Rattle.machine.specs.Stages.{sourceA, sourceB}
 use Rattle.machine.specs.Plain.{Plain, isStopped, fetched, decoded, executed, accessed, steps}
-use Rattle.machine.specs.Prediction.{Settings}
-use Rattle.machine.specs.Charges.{due}
-use Rattle.machine.specs.Pipeline.{Piped, waits, mispredicts, fails, returns, retInE, retInM}
-use Rattle.machine.specs.Pipeline.{fetchAddress, fetchedNow, source, sourceM, sourceW, pastBoth, advanced}
-use Rattle.laws.specs.Registers.{value-after}
+use Rattle.clocked.specs.Prediction.{Settings}
+use Rattle.clocked.specs.Charges.{due}
+use Rattle.clocked.specs.Pipeline.{Piped, waits, mispredicts, fails, returns, retInE, retInM}
+use Rattle.clocked.specs.Pipeline.{fetchAddress, fetchedNow, source, sourceM, sourceW, pastBoth, advanced}
+use Rattle.clock_laws.specs.Registers.{value-after}
 use Rattle.account.specs.Laws
 use Rattle.account.specs.Laws.{bit, wrongAt}
 use Rattle.account.specs.Signals

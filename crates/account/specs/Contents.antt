@@ -17,12 +17,13 @@ use Rattle.machine.specs.Memory.{Memory, inside, store}
 use Rattle.machine.specs.Table.{RegisterByte, noByte, bothNamed, onlyB, onlyA, rowOf, table, is, cmov, jump, operation}
 use Rattle.machine.specs.Fetch.{fetch, parsed, stopping, half, ownBytes, sizeAt}
 use Rattle.machine.specs.Stages.{decode, execute, access, stores, accessAddress, storedWord, newMemory}
-use Rattle.machine.specs.Prediction.{Settings}
-use Rattle.machine.specs.Charges.{retiredOf}
-use Rattle.machine.specs.Pipeline.{Piped, pipeStart, afterE, afterM, memoryAfter, mispredicts, waits, returns, fails, fetchedNow}
-use Rattle.machine.specs.Pipeline.{fetchAddress, nextD, decodedD, nextE, nextM, keptAfter, advanced, stoppedIn, clock, clocks}
-use Rattle.machine.specs.Runs.{instructionRefused, refusedInD, refusedInE, refusedInM, refusedInW, refusedKept, countsRefused}
-use Rattle.machine.specs.Runs.{recordRefused, sizeRefused, budgetRefused, logRefused, lowest, pipeLimit, pipeRefusal}
+use Rattle.clocked.specs.Prediction.{Settings}
+use Rattle.clocked.specs.Charges.{retiredOf}
+use Rattle.clocked.specs.Pipeline.{Piped, pipeStart, afterE, afterM, memoryAfter, mispredicts, waits, returns, fails, fetchedNow}
+use Rattle.clocked.specs.Pipeline.{fetchAddress, nextD, decodedD, nextE, nextM, keptAfter, advanced, stoppedIn, clock, clocks}
+use Rattle.clocked.specs.PipeRuns.{instructionRefused, refusedInD, refusedInE, refusedInM, refusedInW, refusedKept, countsRefused}
+use Rattle.machine.specs.Runs.{sizeRefused, budgetRefused, logRefused, lowest}
+use Rattle.clocked.specs.PipeRuns.{recordRefused, pipeLimit, pipeRefusal}
 use Rattle.account.specs.Statement.{Start, pipedFrom}
 use Rattle.account.specs.Laws.{checked-any}
 use Rattle.laws.specs.Tests.{neither}

@@ -11,7 +11,7 @@ use Rattle.machine.specs.Memory.{inside}
 use Rattle.machine.specs.Fetch.{sizeAt}
 use Rattle.machine.specs.Stages.{stores, accessAddress}
 use Rattle.machine.specs.Plain.{Plain, isStopped, fetched, executed, steps}
-use Rattle.machine.specs.Premise.{writesByte, hasByte, Untouched}
+use Rattle.clocked.specs.Premise.{writesByte, hasByte, Untouched}
 use Rattle.account.specs.Sight.{both, size-positive}
 use Rattle.account.specs.Timing.{up-to}
 

@@ -9,11 +9,11 @@ use Rattle.account.specs.Names.{Status, aok, hlt, adr, ins, Codes, Kinds
 use Rattle.machine.specs.Types.{statusNumber, isBad}
 use Rattle.machine.specs.Memory.{Memory, Registers}
 use Rattle.machine.specs.Plain.{Plain, isStopped, steps}
-use Rattle.machine.specs.Prediction.{Settings, asIn01}
-use Rattle.machine.specs.Charges.{due}
-use Rattle.machine.specs.Pipeline.{Piped, clocks}
-use Rattle.machine.specs.Premise.{Untouched}
-use Rattle.machine.specs.Computing.{computing}
+use Rattle.clocked.specs.Prediction.{Settings, asIn01}
+use Rattle.clocked.specs.Charges.{due}
+use Rattle.clocked.specs.Pipeline.{Piped, clocks}
+use Rattle.clocked.specs.Premise.{Untouched}
+use Rattle.clocked.specs.Computing.{computing}
 use Rattle.account.specs.Statement.{Start, plainFrom, pipedFrom, Agrees, Demand3}
 use Rattle.account.specs.Decide.{UntouchedWithin, untouched, untouched-sound, touches, clear, all}
 

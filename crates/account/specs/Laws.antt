@@ -16,10 +16,10 @@ use Rattle.machine.specs.Fetch.{fetch, parsed, checked, stopping}
 use Rattle.machine.specs.Stages.{register, decode, execute, access, outcome, condition, loads, stores, loading, storing, accessAddress}
 use Rattle.machine.specs.Stages.{accessStatus, newCodes, newMemory, newRegisters, loadedTarget, sourceA, sourceB, turned, straight, nextAddress}
 use Rattle.machine.specs.Plain.{Plain, isStopped, fetched, decoded, executed, accessed, performed, stoppedBy, step, steps}
-use Rattle.machine.specs.Prediction.{Settings, Rule, taken, guess, predictedNext, mispredicted, meets, loadUse}
-use Rattle.machine.specs.Charges.{reasonBehind, retiredOf, amount, reasonOf, charge, charges, due}
-use Rattle.machine.specs.Pipeline.{pastResult, pastBoth}
-use Rattle.laws.specs.Registers.{meets-none, length-written}
+use Rattle.clocked.specs.Prediction.{Settings, Rule, taken, guess, predictedNext, mispredicted, meets, loadUse}
+use Rattle.clocked.specs.Charges.{reasonBehind, retiredOf, amount, reasonOf, charge, charges, due}
+use Rattle.clocked.specs.Pipeline.{pastResult, pastBoth}
+use Rattle.clock_laws.specs.Registers.{meets-none, length-written}
 
 -- 1 or 0
 unfoldable pub bit : Bool → ℕ

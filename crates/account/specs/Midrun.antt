@@ -6,10 +6,10 @@ use mathlib.Core.Path.{_≡_}
 use native.Mathlib.Omega.{arith}
 use lib.ListN.{length}
 use Rattle.machine.specs.Plain.{Plain, isStopped, steps}
-use Rattle.machine.specs.Prediction.{Settings}
-use Rattle.machine.specs.Charges.{due}
-use Rattle.machine.specs.Pipeline.{Piped, clocks}
-use Rattle.machine.specs.Premise.{Untouched}
+use Rattle.clocked.specs.Prediction.{Settings}
+use Rattle.clocked.specs.Charges.{due}
+use Rattle.clocked.specs.Pipeline.{Piped, clocks}
+use Rattle.clocked.specs.Premise.{Untouched}
 use Rattle.account.specs.Statement.{Start, plainFrom, pipedFrom, DueBy}
 use Rattle.account.specs.Relation.{Beyond, AtE, BehindM, AtM, AtW, beyondE, stopE, emptyE, fullE}
 use Rattle.account.specs.Relation.{goesM, retM, beyondM, stopM, emptyM, fullM, beyondW, emptyW, fullW}

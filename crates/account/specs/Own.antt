@@ -9,17 +9,17 @@ use Rattle.account.specs.Names.{StageD, bubbleD, inD, bubbleE, inE, bubb
 use Rattle.machine.specs.Types.{isBad}
 use Rattle.machine.specs.Table.{is, ret}
 use Rattle.machine.specs.Stages.{decode, execute, access}
-use Rattle.machine.specs.Prediction.{Settings, mispredicted}
-use Rattle.machine.specs.Charges.{noKinds, amount, reasonBehind, reasonFrom, retiredOf}
-use Rattle.machine.specs.Pipeline.{Piped, pipeStart, waits, mispredicts, fails, retInE, retInM, fetchedNow}
-use Rattle.machine.specs.Pipeline.{source, retiredAfter, kindsAfter, keptAfter, advanced, stoppedIn, clock, clocks}
+use Rattle.clocked.specs.Prediction.{Settings, mispredicted}
+use Rattle.clocked.specs.Charges.{noKinds, amount, reasonBehind, reasonFrom, retiredOf}
+use Rattle.clocked.specs.Pipeline.{Piped, pipeStart, waits, mispredicts, fails, retInE, retInM, fetchedNow}
+use Rattle.clocked.specs.Pipeline.{source, retiredAfter, kindsAfter, keptAfter, advanced, stoppedIn, clock, clocks}
 use Rattle.account.specs.Statement.{Start, pipedFrom}
 use Rattle.account.specs.Laws
 use Rattle.account.specs.Laws.{bit}
 use Rattle.account.specs.Signals
 use Rattle.account.specs.Signals.{waitsFor}
 use Rattle.account.specs.Timing.{total, total-counted}
-use Rattle.laws.specs.Stops.{clock-still}
+use Rattle.clock_laws.specs.Stops.{clock-still}
 use Rattle.account.specs.Retirement.{Books, clock-bubble, clock-retires, clock-stops, books-retires, books-stops}
 
 -- as an executed instruction will retire

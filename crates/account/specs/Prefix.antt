@@ -6,10 +6,10 @@ use mathlib.Core.Path.{_≡_, refl, ap, sym, _∙_, subst}
 use native.Mathlib.Omega.{arith}
 use lib.ListN.{length}
 use Rattle.machine.specs.Plain.{isStopped, steps}
-use Rattle.machine.specs.Prediction.{Settings}
-use Rattle.machine.specs.Charges.{due, dueCycles}
-use Rattle.machine.specs.Pipeline.{Piped, advanced, stoppedIn, clock, clocks}
-use Rattle.machine.specs.Premise.{Untouched}
+use Rattle.clocked.specs.Prediction.{Settings}
+use Rattle.clocked.specs.Charges.{due, dueCycles}
+use Rattle.clocked.specs.Pipeline.{Piped, advanced, stoppedIn, clock, clocks}
+use Rattle.clocked.specs.Premise.{Untouched}
 use Rattle.account.specs.Statement.{Start, plainFrom, pipedFrom}
 use Rattle.account.specs.Retirement.{clock-any}
 use Rattle.account.specs.Uses.{on-time}

@@ -8,9 +8,9 @@ use mathlib.Core.Path.{_≡_}
 use Rattle.account.specs.Names.{bubbleD, inD, bubbleE, inE, bubbleM, inM, bubbleW, inW}
 use Rattle.machine.specs.Table.{is, ret}
 use Rattle.machine.specs.Plain.{Plain, isStopped, fetched, decoded, executed, accessed, steps}
-use Rattle.machine.specs.Prediction.{Settings}
-use Rattle.machine.specs.Charges.{due}
-use Rattle.machine.specs.Pipeline.{Piped, waits, fetchAddress}
+use Rattle.clocked.specs.Prediction.{Settings}
+use Rattle.clocked.specs.Charges.{due}
+use Rattle.clocked.specs.Pipeline.{Piped, waits, fetchAddress}
 use Rattle.account.specs.Laws.{bit, wrongAt}
 use Rattle.account.specs.Signals.{waitsFor}
 

@@ -5,9 +5,9 @@ use mathlib.Core.List.{[], _∷_, _++_}
 use mathlib.Core.Path.{_≡_, refl}
 use Rattle.account.specs.Names.{Accessed, StageW, bubbleW, inW}
 use Rattle.machine.specs.Types.{isBad}
-use Rattle.machine.specs.Prediction.{Settings}
-use Rattle.machine.specs.Charges.{counted, reasonFrom}
-use Rattle.machine.specs.Pipeline.{Piped, lastAfter, retiredAfter, kindsAfter, logged, advanced, stoppedIn, clockBy, clock}
+use Rattle.clocked.specs.Prediction.{Settings}
+use Rattle.clocked.specs.Charges.{counted, reasonFrom}
+use Rattle.clocked.specs.Pipeline.{Piped, lastAfter, retiredAfter, kindsAfter, logged, advanced, stoppedIn, clockBy, clock}
 
 pub record Books (g : Settings) (p p′ : Piped) (w : Accessed) : Type 0 where
   pub retired : p′ .pipeline .retired ≡ p .pipeline .retired + 1

@@ -17,8 +17,8 @@ use Rattle.machine.specs.Fetch.{fetch, parsed, ownBytes, sizeAt}
 use Rattle.machine.specs.Stages.{decode, execute, stores, accessAddress, storedWord, newMemory}
 use Rattle.published.specs.Lengths.{length-rule, parts}
 use Rattle.machine.specs.Plain.{Plain, isStopped, fetched, decoded, executed, step, steps}
-use Rattle.machine.specs.Prediction.{Settings}
-use Rattle.machine.specs.Premise.{Untouched, writesByte, hasByte}
+use Rattle.clocked.specs.Prediction.{Settings}
+use Rattle.clocked.specs.Premise.{Untouched, writesByte, hasByte}
 use Rattle.account.specs.Laws.{step-memory, stopped-before}
 use Rattle.account.specs.Relation.{Known}
 

@@ -9,10 +9,10 @@ use Rattle.machine.specs.Memory.{value}
 use Rattle.machine.specs.Table.{is, ret}
 use Rattle.machine.specs.Stages.{decode, execute, access, newCodes, newMemory, newRegisters, loadedTarget, sourceA, sourceB, turned}
 use Rattle.machine.specs.Plain.{Plain, fetched, decoded, executed, accessed}
-use Rattle.machine.specs.Prediction.{Settings, predictedNext, mispredicted, meets, loadUse}
-use Rattle.machine.specs.Pipeline.{Piped, afterE, afterM, codesAfter, memoryAfter, registersAfter, pastResult, pastBoth, sourceW, sourceM}
-use Rattle.machine.specs.Pipeline.{source, waitsBehind, waits, wrong, mispredicts, retInD, retInE, retInM, returns, badInW, fails}
-use Rattle.machine.specs.Pipeline.{returnedTo, mended, fetchAddress, fetchedNow, nextF, nextD, decodedD, nextE, nextM, nextCodes, advanced}
+use Rattle.clocked.specs.Prediction.{Settings, predictedNext, mispredicted, meets, loadUse}
+use Rattle.clocked.specs.Pipeline.{Piped, afterE, afterM, codesAfter, memoryAfter, registersAfter, pastResult, pastBoth, sourceW, sourceM}
+use Rattle.clocked.specs.Pipeline.{source, waitsBehind, waits, wrong, mispredicts, retInD, retInE, retInM, returns, badInW, fails}
+use Rattle.clocked.specs.Pipeline.{returnedTo, mended, fetchAddress, fetchedNow, nextF, nextD, decodedD, nextE, nextM, nextCodes, advanced}
 use Rattle.account.specs.Laws.{or-true, wrongAt}
 use Rattle.laws.specs.Tests.{neither}
 

@@ -7,10 +7,10 @@ use Rattle.account.specs.Names.{Codes, Kept, noneKept, lastKept}
 use Rattle.machine.specs.Types.{isBad}
 use Rattle.machine.specs.Memory.{Memory, Registers}
 use Rattle.machine.specs.Plain.{Plain, plainOf, plainStart, isStopped, accessed, steps}
-use Rattle.machine.specs.Prediction.{Settings}
-use Rattle.machine.specs.Charges.{retiredOf, kindsOf, due, dueCycles}
-use Rattle.machine.specs.Pipeline.{Piped, pipedOf, pipeStart, clocks}
-use Rattle.machine.specs.Premise.{Untouched}
+use Rattle.clocked.specs.Prediction.{Settings}
+use Rattle.clocked.specs.Charges.{retiredOf, kindsOf, due, dueCycles}
+use Rattle.clocked.specs.Pipeline.{Piped, pipedOf, pipeStart, clocks}
+use Rattle.clocked.specs.Premise.{Untouched}
 
 -- what both engines are started from
 pub record Start : Type 0 where

@@ -9,11 +9,11 @@ use lib.ListN.{length}
 use Rattle.account.specs.Names.{aok, bubbleW, inW}
 use Rattle.machine.specs.Types.{isBad}
 use Rattle.machine.specs.Plain.{Plain, plainStart, isStopped, fetched, accessed, stoppedBy, steps}
-use Rattle.machine.specs.Prediction.{Settings}
-use Rattle.machine.specs.Charges.{reasonFrom, reasonOf, kindsOf, charge, charges, amount, due, dueCycles}
-use Rattle.machine.specs.Pipeline.{Piped, pipeStart, waits, waitsBehind, mended, returnedTo, fetchAddress, lastAfter}
-use Rattle.machine.specs.Pipeline.{retiredAfter, kindsAfter, keptAfter, logged, advanced, stoppedIn, clock, clocks}
-use Rattle.machine.specs.Premise.{Untouched}
+use Rattle.clocked.specs.Prediction.{Settings}
+use Rattle.clocked.specs.Charges.{reasonFrom, reasonOf, kindsOf, charge, charges, amount, due, dueCycles}
+use Rattle.clocked.specs.Pipeline.{Piped, pipeStart, waits, waitsBehind, mended, returnedTo, fetchAddress, lastAfter}
+use Rattle.clocked.specs.Pipeline.{retiredAfter, kindsAfter, keptAfter, logged, advanced, stoppedIn, clock, clocks}
+use Rattle.clocked.specs.Premise.{Untouched}
 use Rattle.account.specs.Statement.{Start, plainFrom, pipedFrom, DueBy, keptOf, Agrees, Demand3}
 use Rattle.account.specs.Laws
 use Rattle.account.specs.Laws.{bit}
@@ -22,7 +22,8 @@ use Rattle.account.specs.Relation.{Known, Beyond, AtM, AtW, readyF, empt
 use Rattle.account.specs.Clock
 use Rattle.account.specs.Sight
 use Rattle.account.specs.Timing.{Older, older-later, older-next, exactly, exactly-stopped, due-order, late-W}
-use Rattle.laws.specs.Stops.{sound, clock-still}
+use Rattle.laws.specs.Status.{sound}
+use Rattle.clock_laws.specs.Stops.{clock-still}
 use Rattle.account.specs.Retirement.{Books, clock-bubble, clock-retires, clock-stops, books-retires, books-stops}
 
 module _ (g : Settings) (s : Plain) (k : ℕ) where

@@ -7,9 +7,9 @@ use native.Mathlib.Omega.{arith}
 use native.Mathlib.Decide.{decLt}
 use Rattle.account.specs.Names.{Kinds}
 use Rattle.machine.specs.Plain.{Plain, isStopped, steps}
-use Rattle.machine.specs.Prediction.{Settings}
-use Rattle.machine.specs.Charges.{Reason, free, waited, wronglyGuessed, returned, amount, noKinds, counted, reasonOf, charge, charges, kindsOf, due}
-use Rattle.machine.specs.Pipeline.{Piped}
+use Rattle.clocked.specs.Prediction.{Settings}
+use Rattle.clocked.specs.Charges.{Reason, free, waited, wronglyGuessed, returned, amount, noKinds, counted, reasonOf, charge, charges, kindsOf, due}
+use Rattle.clocked.specs.Pipeline.{Piped}
 use Rattle.account.specs.Statement.{DueBy}
 use Rattle.account.specs.Relation.{Beyond, AtF, AtD, AtE, AtM, AtW, beyondF, stopF, readyF, beyondD, stopD, emptyD, fullD}
 use Rattle.account.specs.Relation.{beyondE, stopE, emptyE, fullE, beyondM, stopM, emptyM, fullM, beyondW, emptyW, fullW}

@@ -15,12 +15,14 @@ use Rattle.account.specs.Names.{Machine, Pipeline}
 use Rattle.machine.specs.Types.{isBad}
 use Rattle.machine.specs.Memory.{Memory}
 use Rattle.machine.specs.Plain.{Plain, plainOf, plainStart, isStopped, steps}
-use Rattle.machine.specs.Prediction.{Settings}
-use Rattle.machine.specs.Charges.{kindsOf, due, dueCycles}
-use Rattle.machine.specs.Pipeline.{pipedOf, clocks}
-use Rattle.machine.specs.Premise.{Untouched}
-use Rattle.machine.specs.Runs.{laid, sizeRefused, budgetRefused, logRefused, recordRefused, plainLimit, pipeLimit, plainAnswer, pipeAnswer, lowest}
-use Rattle.machine.specs.Runs.{plainRefusal, PlainAnswer, plainDone, plainBy, plainRun, pipeRefusal, PipeAnswer, pipeDone, pipeBy, pipeRun, pipeRunUnlogged}
+use Rattle.clocked.specs.Prediction.{Settings}
+use Rattle.clocked.specs.Charges.{kindsOf, due, dueCycles}
+use Rattle.clocked.specs.Pipeline.{pipedOf, clocks}
+use Rattle.clocked.specs.Premise.{Untouched}
+use Rattle.machine.specs.Runs.{laid, sizeRefused, budgetRefused, logRefused, plainLimit, plainAnswer, lowest}
+use Rattle.clocked.specs.PipeRuns.{recordRefused, pipeLimit, pipeAnswer}
+use Rattle.machine.specs.Runs.{plainRefusal, PlainAnswer, plainDone, plainBy, plainRun}
+use Rattle.clocked.specs.PipeRuns.{pipeRefusal, PipeAnswer, pipeDone, pipeBy, pipeRun, pipeRunUnlogged}
 use Rattle.account.specs.Statement.{Start, plainFrom, pipedFrom, DueBy, keptOf, Agrees}
 use Rattle.account.specs.Laws.{step-logs}
 use Rattle.laws.specs.Tests.{neither}

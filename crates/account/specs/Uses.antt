@@ -7,14 +7,14 @@ use native.Mathlib.Decide.{decLt}
 use lib.ListN.{length}
 use Rattle.machine.specs.Types.{isBad}
 use Rattle.machine.specs.Plain.{Plain, isStopped, steps}
-use Rattle.machine.specs.Prediction.{Settings}
-use Rattle.machine.specs.Charges.{due}
-use Rattle.machine.specs.Pipeline.{Piped, clocks}
-use Rattle.machine.specs.Premise.{Untouched}
+use Rattle.clocked.specs.Prediction.{Settings}
+use Rattle.clocked.specs.Charges.{due}
+use Rattle.clocked.specs.Pipeline.{Piped, clocks}
+use Rattle.clocked.specs.Premise.{Untouched}
 use Rattle.account.specs.Statement.{Start, plainFrom, pipedFrom, DueBy, Agrees}
 use Rattle.account.specs.Sight.{runs-before}
 use Rattle.account.specs.Timing.{Older, exactly, exactly-stopped, due-grows, due-order}
-use Rattle.laws.specs.Stops.{stays}
+use Rattle.clock_laws.specs.Stops.{stays}
 use Rattle.account.specs.Theorem.{demand3}
 
 -- WHICH ARE DUE

@@ -37,20 +37,20 @@ use crate::layout::W_RESULT;
 use crate::layout::W_STATUS;
 use crate::layout::W_WORD;
 use crate::layout::ZF;
+use clocked::Kept;
+use clocked::Kinds;
+use clocked::Pipeline;
+use clocked::Retired;
+use clocked::StageD;
+use clocked::StageE;
+use clocked::StageM;
+use clocked::StageW;
 use machine::Accessed;
 use machine::Codes;
 use machine::Decoded;
 use machine::Executed;
 use machine::Instruction;
-use machine::Kept;
-use machine::Kinds;
 use machine::Machine;
-use machine::Pipeline;
-use machine::Retired;
-use machine::StageD;
-use machine::StageE;
-use machine::StageM;
-use machine::StageW;
 use machine::Status;
 
 // The word at a place of a part; one that the block lacks reads 0.

@@ -38,16 +38,16 @@ use blocks_in::layout::W_RESULT;
 use blocks_in::layout::W_STATUS;
 use blocks_in::layout::W_WORD;
 use blocks_in::layout::ZF;
+use clocked::Kept;
+use clocked::Kinds;
+use clocked::Pipeline;
+use clocked::StageD;
+use clocked::StageE;
+use clocked::StageM;
+use clocked::StageW;
 use machine::Codes;
 use machine::Instruction;
-use machine::Kept;
-use machine::Kinds;
 use machine::Machine;
-use machine::Pipeline;
-use machine::StageD;
-use machine::StageE;
-use machine::StageM;
-use machine::StageW;
 use machine::Status;
 
 // A word to a place of a part; a place that the block lacks takes nothing.

@@ -7,11 +7,12 @@ use lib.ListN.{getD, replicate}
 use Rattle.machine.specs.Types.{statusNumber, codesNumber}
 use Rattle.machine.specs.Words.{number}
 use Rattle.machine.specs.Memory.{Memory}
-use Rattle.machine.specs.Prediction.{asIn01}
-use Rattle.machine.specs.Charges.{charge}
+use Rattle.clocked.specs.Prediction.{asIn01}
+use Rattle.clocked.specs.Charges.{charge}
 use Rattle.machine.specs.Plain.{plainStart, plainOf}
-use Rattle.machine.specs.Pipeline.{pipeStart}
-use Rattle.machine.specs.Runs.{PlainAnswer, PipeAnswer, plainRun, pipeRun}
+use Rattle.clocked.specs.Pipeline.{pipeStart}
+use Rattle.machine.specs.Runs.{PlainAnswer, plainRun}
+use Rattle.clocked.specs.PipeRuns.{PipeAnswer, pipeRun}
 use Rattle.records.specs.Given.{image, given, coded}
 use Rattle.records.specs.Looks.{same}
 use Rattle.cases.specs.Names.{Status, Codes}

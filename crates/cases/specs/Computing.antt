@@ -1,5 +1,5 @@
 -- What computes in this crate: all of machine, and the host edge.
-use Rattle.machine.specs.Computing
+use Rattle.clocked.specs.Computing
 use Rattle.edge.specs.Edge
 
 unfoldable pub computing : Unit {0}

@@ -6,4 +6,4 @@ pub use Rattle.machine.specs.declared.Instruction.{Instruction}
 pub use Rattle.machine.specs.declared.FetchAnswer.{FetchAnswer}
 pub use Rattle.machine.specs.declared.Executed.{Executed}
 pub use Rattle.machine.specs.declared.Machine.{Machine}
-pub use Rattle.machine.specs.declared.Pipeline.{Pipeline}
+pub use Rattle.clocked.specs.declared.Pipeline.{Pipeline}

@@ -4,10 +4,11 @@ use Prim.Native.Nat.{ℕ}
 use mathlib.Core.Path.{_≡_}
 use mathlib.Core.List.{List}
 use Rattle.machine.specs.Memory.{Memory, Registers}
-use Rattle.machine.specs.Prediction.{asIn01}
+use Rattle.clocked.specs.Prediction.{asIn01}
 use Rattle.machine.specs.Plain.{plainStart}
-use Rattle.machine.specs.Pipeline.{pipeStart}
-use Rattle.machine.specs.Runs.{fetchAnswer, PlainAnswer, PipeAnswer, plainStep, plainRun, pipeClock, pipeRun, pipeRunUnlogged}
+use Rattle.clocked.specs.Pipeline.{pipeStart}
+use Rattle.machine.specs.Runs.{fetchAnswer, PlainAnswer, plainStep, plainRun}
+use Rattle.clocked.specs.PipeRuns.{PipeAnswer, pipeClock, pipeRun, pipeRunUnlogged}
 use Rattle.account.specs.Statement.{Start}
 use Rattle.peaks.specs.declared.Answer.{Answer}
 use Rattle.peaks.specs.Day.{judged}

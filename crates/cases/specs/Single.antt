@@ -3,7 +3,8 @@ use Prim.Native.Nat.{ℕ}
 use mathlib.Core.Path.{_≡_, refl, sym, _∙_, ap}
 use mathlib.Core.List.{List}
 use Rattle.machine.specs.Memory.{Memory}
-use Rattle.machine.specs.Runs.{plainAnswer, pipeAnswer}
+use Rattle.machine.specs.Runs.{plainAnswer}
+use Rattle.clocked.specs.PipeRuns.{pipeAnswer}
 use Rattle.edge.specs.Edge.{edge}
 use Rattle.cases.specs.Names.{Machine, Pipeline}
 use Rattle.cases.specs.Promises.{Operation, Fits, Promise, fetching, plain-start, plain-step, plain-run, pipe-start, pipe-clock, pipe-run}

@@ -12,10 +12,11 @@ use Rattle.machine.specs.Types.{statusNumber, codesNumber, isBad}
 use Rattle.machine.specs.Words.{number}
 use Rattle.machine.specs.Memory.{Memory, Registers}
 use Rattle.machine.specs.Plain.{Plain, plainOf, plainStart, isStopped, step}
-use Rattle.machine.specs.Prediction.{asIn01}
-use Rattle.machine.specs.Charges.{due}
-use Rattle.machine.specs.Pipeline.{Piped, pipeStart}
-use Rattle.machine.specs.Runs.{PlainAnswer, PipeAnswer, plainAnswer, pipeAnswer, plainLimit, plainRun, pipeBy, laid}
+use Rattle.clocked.specs.Prediction.{asIn01}
+use Rattle.clocked.specs.Charges.{due}
+use Rattle.clocked.specs.Pipeline.{Piped, pipeStart}
+use Rattle.machine.specs.Runs.{PlainAnswer, plainAnswer, plainLimit, plainRun, laid}
+use Rattle.clocked.specs.PipeRuns.{PipeAnswer, pipeAnswer, pipeBy}
 use Rattle.account.specs.Sight.{both}
 use Rattle.account.specs.Statement.{Start, plainFrom, keptOf, Agrees}
 use Rattle.cases.specs.Names.{Status, Codes, Machine, Pipeline, hlt}

@@ -8,11 +8,11 @@ use lib.Dec.{T}
 use lib.ListN.{length, take, drop, replicate, length-drop, drop-of-length-le}
 use lib.Seq.{take-length}
 use borrow.Rule.Slice.PartMut.{midOf, putMid, post-is}
-use Rattle.machine.specs.declared.Pipeline.{Pipeline}
+use Rattle.clocked.specs.declared.Pipeline.{Pipeline}
 use Rattle.machine.specs.Memory.{Memory}
-use Rattle.machine.specs.Prediction.{asIn01}
-use Rattle.machine.specs.Pipeline.{pipeStart}
-use Rattle.machine.specs.Runs.{PipeAnswer, pipeAnswer, pipeRunUnlogged}
+use Rattle.clocked.specs.Prediction.{asIn01}
+use Rattle.clocked.specs.Pipeline.{pipeStart}
+use Rattle.clocked.specs.PipeRuns.{PipeAnswer, pipeAnswer, pipeRunUnlogged}
 use Rattle.peaks.specs.declared.Comparison.{Comparison}
 use Rattle.peaks.specs.declared.Raw.{Raw}
 use Rattle.peaks.specs.declared.Found.{Found}

@@ -8,11 +8,12 @@ use borrow.Author.Tests.{eq-eqb, ne-eqb, lt-ltb, le-ltb, eqb-true, not-false}
 use lib.Dec.{eqb}
 use lib.ListN.{length}
 use Rattle.machine.specs.declared.Codes.{Codes}
-use Rattle.machine.specs.declared.Pipeline.{Pipeline}
+use Rattle.clocked.specs.declared.Pipeline.{Pipeline}
 use Rattle.machine.specs.Types.{statusNumber, codesNumber}
-use Rattle.machine.specs.Prediction.{asIn01}
-use Rattle.machine.specs.Pipeline.{pipeStart}
-use Rattle.machine.specs.Runs.{sizeRefused, budgetRefused, lowest, pipeLimit, pipeAnswer, pipeRunUnlogged}
+use Rattle.clocked.specs.Prediction.{asIn01}
+use Rattle.clocked.specs.Pipeline.{pipeStart}
+use Rattle.machine.specs.Runs.{sizeRefused, budgetRefused, lowest}
+use Rattle.clocked.specs.PipeRuns.{pipeLimit, pipeAnswer, pipeRunUnlogged}
 use Rattle.answers.specs.Refusals.{failed}
 use Rattle.edge.specs.Edge.{wordsIn, withWords, codesFrom, edgeRefusal, resultWords, edge, edgeDone, edgeRun, replayed}
 

@@ -7,10 +7,12 @@ use native.Mathlib.Omega.{arith}
 use lib.Dec.{eqb}
 use lib.ListN.{length}
 use Rattle.machine.specs.Types.{codesNumber}
-use Rattle.machine.specs.Charges.{noKinds}
-use Rattle.machine.specs.Pipeline.{pipeStart}
-use Rattle.machine.specs.Runs.{sizeRefused, budgetRefused, logRefused, recordRefused, countsRefused, refusedInD, refusedInE}
-use Rattle.machine.specs.Runs.{refusedInM, refusedInW, refusedKept, lowest, pipeLimit, pipeRefusal, pipeDone, pipeBy, pipeRunUnlogged}
+use Rattle.clocked.specs.Charges.{noKinds}
+use Rattle.clocked.specs.Pipeline.{pipeStart}
+use Rattle.machine.specs.Runs.{sizeRefused, budgetRefused, logRefused}
+use Rattle.clocked.specs.PipeRuns.{recordRefused, countsRefused, refusedInD, refusedInE}
+use Rattle.machine.specs.Runs.{lowest}
+use Rattle.clocked.specs.PipeRuns.{refusedInM, refusedInW, refusedKept, pipeLimit, pipeRefusal, pipeDone, pipeBy, pipeRunUnlogged}
 use Rattle.answers.specs.Refusals.{failed}
 use Rattle.edge.specs.Edge.{codesFrom, edgeRefusal, edgeRun}
 

@@ -5,13 +5,14 @@ use mathlib.Core.List.{List, [], _∷_}
 use lib.Dec.{eqb, ltb}
 use lib.ListN.{length}
 use Rattle.machine.specs.declared.Codes.{Codes}
-use Rattle.machine.specs.declared.Pipeline.{Pipeline}
+use Rattle.clocked.specs.declared.Pipeline.{Pipeline}
 use Rattle.machine.specs.Types.{statusNumber, codesNumber}
 use Rattle.machine.specs.Words.{number, placed}
 use Rattle.machine.specs.Memory.{Memory}
-use Rattle.machine.specs.Prediction.{asIn01}
-use Rattle.machine.specs.Pipeline.{pipeStart}
-use Rattle.machine.specs.Runs.{sizeRefused, budgetRefused, lowest, pipeLimit, PipeAnswer, pipeRunUnlogged}
+use Rattle.clocked.specs.Prediction.{asIn01}
+use Rattle.clocked.specs.Pipeline.{pipeStart}
+use Rattle.machine.specs.Runs.{sizeRefused, budgetRefused, lowest}
+use Rattle.clocked.specs.PipeRuns.{pipeLimit, PipeAnswer, pipeRunUnlogged}
 
 -- the n words in the bytes b from a on
 unfoldable pub wordsIn : ℕ → List ℕ → ℕ → List ℕ

@@ -2,11 +2,11 @@
 mod days;
 mod listings;
 
+use clocked::PIPE_LIMIT;
+use clocked::Pipeline;
 pub use days::y86_peaks;
 pub use listings::y86_read_listing;
 use machine::Codes;
-use machine::PIPE_LIMIT;
-use machine::Pipeline;
 use machine::REGISTERS;
 use machine::Status;
 ghost use mathlib.Core.Path.{_≡_};

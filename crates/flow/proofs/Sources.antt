@@ -4,20 +4,20 @@ use mathlib.Core.Bool.{Bool, true, false, cond, _||_}
 use Prim.Native.Nat.{ℕ}
 use lib.Dec.{ltb, eqb}
 use lib.ListN.{length}
-use Rattle.laws.specs.Registers.{meets-none, value-after-w}
+use Rattle.clock_laws.specs.Registers.{meets-none, value-after-w}
 use Rattle.machine.specs.declared.Codes.{Codes}
-use Rattle.machine.specs.declared.StageD.{StageD}
-use Rattle.machine.specs.declared.StageD.the-variants.{BubbleD as bubbleD, InD as inD}
-use Rattle.machine.specs.declared.StageE.{StageE}
-use Rattle.machine.specs.declared.StageE.the-variants.{BubbleE as bubbleE, InE as inE}
-use Rattle.machine.specs.declared.StageM.{StageM}
-use Rattle.machine.specs.declared.StageM.the-variants.{BubbleM as bubbleM, InM as inM}
-use Rattle.machine.specs.declared.StageW.{StageW}
-use Rattle.machine.specs.declared.StageW.the-variants.{BubbleW as bubbleW, InW as inW}
+use Rattle.clocked.specs.declared.StageD.{StageD}
+use Rattle.clocked.specs.declared.StageD.the-variants.{BubbleD as bubbleD, InD as inD}
+use Rattle.clocked.specs.declared.StageE.{StageE}
+use Rattle.clocked.specs.declared.StageE.the-variants.{BubbleE as bubbleE, InE as inE}
+use Rattle.clocked.specs.declared.StageM.{StageM}
+use Rattle.clocked.specs.declared.StageM.the-variants.{BubbleM as bubbleM, InM as inM}
+use Rattle.clocked.specs.declared.StageW.{StageW}
+use Rattle.clocked.specs.declared.StageW.the-variants.{BubbleW as bubbleW, InW as inW}
 use Rattle.machine.specs.Memory.{Memory, Registers, value, written}
 use Rattle.machine.specs.Stages.{decode, execute, access, newRegisters, sourceA, sourceB}
-use Rattle.machine.specs.Prediction.{asIn01, meets, loadUse}
-use Rattle.machine.specs.Pipeline.{afterE, afterM, pastResult, pastBoth, registersAfter, waitsBehind}
+use Rattle.clocked.specs.Prediction.{asIn01, meets, loadUse}
+use Rattle.clocked.specs.Pipeline.{afterE, afterM, pastResult, pastBoth, registersAfter, waitsBehind}
 use Rattle.stage.specs.Forwarding.{targetsOf, targetsM, targetsW, sourcesD, resultM, resultW, wordW, writtenBy, sourceBy, decodedBy}
 use Rattle.flow.specs.Moving.{sourceIn, decodedIn}
 

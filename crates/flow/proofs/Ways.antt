@@ -5,17 +5,17 @@ use Prim.Native.Nat.{ℕ}
 use lib.ListN.{length}
 use Rattle.machine.specs.declared.Codes.{Codes}
 use Rattle.machine.specs.declared.Instruction.{Instruction}
-use Rattle.machine.specs.declared.StageD.{StageD}
-use Rattle.machine.specs.declared.StageD.the-variants.{BubbleD as bubbleD, InD as inD}
-use Rattle.machine.specs.declared.StageE.{StageE}
-use Rattle.machine.specs.declared.StageE.the-variants.{BubbleE as bubbleE}
-use Rattle.machine.specs.declared.StageM.{StageM}
-use Rattle.machine.specs.declared.StageM.the-variants.{BubbleM as bubbleM}
-use Rattle.machine.specs.declared.StageW.{StageW}
+use Rattle.clocked.specs.declared.StageD.{StageD}
+use Rattle.clocked.specs.declared.StageD.the-variants.{BubbleD as bubbleD, InD as inD}
+use Rattle.clocked.specs.declared.StageE.{StageE}
+use Rattle.clocked.specs.declared.StageE.the-variants.{BubbleE as bubbleE}
+use Rattle.clocked.specs.declared.StageM.{StageM}
+use Rattle.clocked.specs.declared.StageM.the-variants.{BubbleM as bubbleM}
+use Rattle.clocked.specs.declared.StageW.{StageW}
 use Rattle.machine.specs.Memory.{Memory, Registers}
 use Rattle.machine.specs.Fetch.{fetch}
-use Rattle.machine.specs.Prediction.{asIn01, predictedNext, meets}
-use Rattle.machine.specs.Pipeline.{afterE, afterM, codesAfter, registersAfter, wrong, retInD, retInE, retInM, badInW, returnedTo, mended}
+use Rattle.clocked.specs.Prediction.{asIn01, predictedNext, meets}
+use Rattle.clocked.specs.Pipeline.{afterE, afterM, codesAfter, registersAfter, wrong, retInD, retInE, retInM, badInW, returnedTo, mended}
 use Rattle.stage.specs.declared.forwarding.Targets.{Targets}
 use Rattle.stage.specs.declared.forwarding.Sources.{Sources}
 use Rattle.stage.specs.Forwarding.{noTargets, targetsM, targetsW, sourcesD, writtenBy, decodedBy}

@@ -2,18 +2,18 @@
 use Prim.Native.Nat.{ℕ}
 use mathlib.Core.Bool.{Bool, cond, _||_}
 use Rattle.machine.specs.declared.Instruction.{Instruction}
-use Rattle.machine.specs.declared.StageD.{StageD}
-use Rattle.machine.specs.declared.StageD.the-variants.{BubbleD as bubbleD, InD as inD}
-use Rattle.machine.specs.declared.StageE.{StageE}
-use Rattle.machine.specs.declared.StageE.the-variants.{BubbleE as bubbleE, InE as inE}
-use Rattle.machine.specs.declared.StageM.{StageM}
-use Rattle.machine.specs.declared.StageM.the-variants.{BubbleM as bubbleM}
-use Rattle.machine.specs.declared.StageW.{StageW}
+use Rattle.clocked.specs.declared.StageD.{StageD}
+use Rattle.clocked.specs.declared.StageD.the-variants.{BubbleD as bubbleD, InD as inD}
+use Rattle.clocked.specs.declared.StageE.{StageE}
+use Rattle.clocked.specs.declared.StageE.the-variants.{BubbleE as bubbleE, InE as inE}
+use Rattle.clocked.specs.declared.StageM.{StageM}
+use Rattle.clocked.specs.declared.StageM.the-variants.{BubbleM as bubbleM}
+use Rattle.clocked.specs.declared.StageW.{StageW}
 use Rattle.machine.specs.Memory.{Memory, Registers, value}
 use Rattle.machine.specs.Fetch.{fetch}
 use Rattle.machine.specs.Stages.{decode}
-use Rattle.machine.specs.Prediction.{asIn01, predictedNext, meets}
-use Rattle.machine.specs.Pipeline.{afterE, afterM, codesAfter, pastResult, pastBoth, waitsBehind, wrong, retInD, retInE, retInM, badInW, returnedTo, mended}
+use Rattle.clocked.specs.Prediction.{asIn01, predictedNext, meets}
+use Rattle.clocked.specs.Pipeline.{afterE, afterM, codesAfter, pastResult, pastBoth, waitsBehind, wrong, retInD, retInE, retInM, badInW, returnedTo, mended}
 use Rattle.stage.specs.declared.forwarding.Targets.{Targets}
 use Rattle.stage.specs.declared.forwarding.Sources.{Sources}
 use Rattle.stage.specs.Forwarding.{targetsM, targetsW}

@@ -1,12 +1,12 @@
 // One clock of the stages: what stands in F to W, and the codes, with registers and memory beside them.
+use clocked::StageD;
+use clocked::StageE;
+use clocked::StageM;
+use clocked::StageW;
 use fetching::instruction_at;
 use machine::Codes;
 use machine::Instruction;
 use machine::REGISTERS;
-use machine::StageD;
-use machine::StageE;
-use machine::StageM;
-use machine::StageW;
 use stage::addresses::fetch_address;
 use stage::controls::next_codes;
 use stage::controls::next_d;
@@ -29,7 +29,7 @@ use stage::working::memory_after;
 use stage::working::registers_after;
 ghost use mathlib.Core.Path.{_≡_};
 ghost use lib.ListN.{length};
-ghost use Rattle.machine.specs.Pipeline.{memoryAfter, registersAfter};
+ghost use Rattle.clocked.specs.Pipeline.{memoryAfter, registersAfter};
 ghost use Rattle.stage.specs.Forwarding.{sourcesD, targetsM, targetsW};
 ghost use Rattle.flow.specs.Moving.{aheadOf, signalsBy, fetchedIn, decodedIn, flowAfter};
 

@@ -1,4 +1,3 @@
 pub mod Memory
-pub mod Registers
-pub mod Stops
+pub mod Status
 pub mod Tests

@@ -6,10 +6,6 @@ use Rattle.machine.specs.Table
 use Rattle.machine.specs.Fetch
 use Rattle.machine.specs.Stages
 use Rattle.machine.specs.Plain
-use Rattle.machine.specs.Prediction
-use Rattle.machine.specs.Charges
-use Rattle.machine.specs.Pipeline
-use Rattle.machine.specs.Premise
 use Rattle.machine.specs.Runs
 
 unfoldable pub computing : Unit {0}
@@ -24,17 +20,6 @@ unfolding
     Stages.accessAddress Stages.stored Stages.storedWord Stages.accessStatus Stages.access Stages.newMemory Stages.resultTarget Stages.loadedTarget
     Stages.newRegisters Stages.turned Stages.straight Stages.nextAddress
     Plain.plainStart Plain.isStopped Plain.fetched Plain.decoded Plain.executed Plain.accessed Plain.performed Plain.stoppedBy Plain.step Plain.steps
-    Prediction.guess Prediction.predictedNext Prediction.mispredicted Prediction.meets Prediction.loadUse
-    Charges.reasonBehind Charges.amount Charges.noKinds Charges.counted Charges.retiredOf Charges.reasonFrom Charges.reasonOf Charges.charge
-    Charges.charges Charges.kindsOf Charges.due Charges.dueCycles
-    Pipeline.pipeStart Pipeline.afterE Pipeline.afterM Pipeline.codesAfter Pipeline.memoryAfter Pipeline.registersAfter Pipeline.pastResult
-    Pipeline.pastBoth Pipeline.sourceW Pipeline.sourceM Pipeline.source Pipeline.waitsBehind Pipeline.waits Pipeline.wrong Pipeline.mispredicts
-    Pipeline.retInD Pipeline.retInE Pipeline.retInM Pipeline.returns Pipeline.badInW Pipeline.fails Pipeline.returnedTo Pipeline.mended
-    Pipeline.fetchAddress Pipeline.fetchedNow Pipeline.nextF Pipeline.nextD Pipeline.decodedD Pipeline.nextE Pipeline.nextM Pipeline.nextCodes
-    Pipeline.lastAfter Pipeline.retiredAfter Pipeline.kindsAfter Pipeline.keptAfter Pipeline.logged Pipeline.advanced Pipeline.stoppedIn
-    Pipeline.clockBy Pipeline.clock Pipeline.clocks
-    Premise.writesByte Premise.hasByte
-    Runs.laid Runs.sizeRefused Runs.budgetRefused Runs.logRefused Runs.instructionRefused Runs.refusedInD Runs.refusedInE Runs.refusedInM
-    Runs.refusedInW Runs.refusedKept Runs.countsRefused Runs.recordRefused Runs.lowest Runs.fetchAnswer Runs.plainRefusal Runs.plainDone Runs.plainBy
-    Runs.plainRun Runs.plainStep Runs.pipeRefusal Runs.pipeDone Runs.pipeBy Runs.pipeRun Runs.pipeRunUnlogged Runs.pipeClock
+    Runs.laid Runs.sizeRefused Runs.budgetRefused Runs.logRefused Runs.lowest Runs.fetchAnswer Runs.plainRefusal Runs.plainDone Runs.plainBy
+    Runs.plainRun Runs.plainStep
 computing = tt

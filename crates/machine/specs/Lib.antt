@@ -1,4 +1,4 @@
--- Document 01 as definitions, in its own order.
+-- Document 01 as definitions, in its own order: all that the plain engine needs. The pipeline's rules are in clocked.
 pub mod Types
 pub mod Words
 pub mod Memory
@@ -6,9 +6,5 @@ pub mod Table
 pub mod Fetch
 pub mod Stages
 pub mod Plain
-pub mod Prediction
-pub mod Charges
-pub mod Pipeline
-pub mod Premise
 pub mod Runs
 pub mod Computing

@@ -1,17 +1,13 @@
--- Budgets, logs, answers: what each entry open to callers gives back, refusals included.
+-- Budgets, logs, answers: the tests that refusals share, and what fetching and the plain run give back, refusals included.
 use Prim.Native.Nat.{ℕ, _+_}
-use mathlib.Core.Bool.{Bool, false, cond, _&&_, _||_}
+use mathlib.Core.Bool.{Bool, false, cond, _||_}
 use mathlib.Core.List.{List, [], _∷_}
-use lib.Dec.{ltb, leb, eqb}
+use lib.Dec.{ltb, eqb}
 use lib.ListN.{length}
-use Rattle.machine.specs.Types.{Machine, Pipeline, Instruction, FetchAnswer, adr}
-use Rattle.machine.specs.Types.{StageD, bubbleD, inD, StageE, bubbleE, inE, StageM, bubbleM, inM, StageW, bubbleW, inW, Kept, noneKept, lastKept}
+use Rattle.machine.specs.Types.{Machine, FetchAnswer, adr}
 use Rattle.machine.specs.Memory.{Memory}
 use Rattle.machine.specs.Fetch.{fetch, stopping}
-use Rattle.machine.specs.Table.{rowOf, is, cmov, operation, jump}
-use Rattle.machine.specs.Prediction.{Settings}
 use Rattle.machine.specs.Plain.{Plain, plainOf, steps}
-use Rattle.machine.specs.Pipeline.{Piped, pipedOf, clocks}
 
 -- "The caller lends a log of 64-bit words"; "place k-1 takes the k-th retirement of the call, the rest stays."
 unfoldable pub laid : List ℕ → List ℕ → List ℕ
@@ -32,43 +28,6 @@ budgetRefused limit count budget = eqb budget 0 || ltb limit (count + budget)
 unfoldable pub logRefused : List ℕ → ℕ → Bool
 logRefused [] budget = false
 logRefused (n ∷ ns) budget = ltb n budget || logRefused ns budget
-
--- 5: "register number over 15, code without functions in the table, move or jump function over 6, OPq function over 3"
-unfoldable pub instructionRefused : Instruction → Bool
-instructionRefused i =
-    ltb 15 (i .ra) || (ltb 15 (i .rb)
-    || (eqb (rowOf (i .code) .functions) 0
-    || ((is cmov i || (is jump i || is operation i)) && leb (rowOf (i .code) .functions) (i .function))))
-
-unfoldable pub refusedInD : StageD → Bool
-refusedInD bubbleD = false
-refusedInD (inD i) = instructionRefused i
-
-unfoldable pub refusedInE : StageE → Bool
-refusedInE bubbleE = false
-refusedInE (inE x) = instructionRefused (x .instruction)
-
-unfoldable pub refusedInM : StageM → Bool
-refusedInM bubbleM = false
-refusedInM (inM x) = instructionRefused (x .instruction)
-
-unfoldable pub refusedInW : StageW → Bool
-refusedInW bubbleW = false
-refusedInW (inW w) = instructionRefused (w .instruction)
-
-unfoldable pub refusedKept : Kept → Bool
-refusedKept noneKept = false
-refusedKept (lastKept k) = instructionRefused (k .instruction)
-
--- 5: "retired or a kind's count above cycles"
-unfoldable pub countsRefused : Pipeline → Bool
-countsRefused k =
-    ltb (k .cycles) (k .retired) || (ltb (k .cycles) (k .kinds .loaduse)
-    || (ltb (k .cycles) (k .kinds .mispredict) || ltb (k .cycles) (k .kinds .returned)))
-
-unfoldable pub recordRefused : Pipeline → Bool
-recordRefused k =
-    refusedInD (k .d) || (refusedInE (k .e) || (refusedInM (k .m) || (refusedInW (k .w) || (refusedKept (k .kept) || countsRefused k))))
 
 -- "Lowest number wins." "Otherwise answer 0." The first that applies, in lists that ascend
 unfoldable pub lowest : List (ℕ × Bool) → ℕ
@@ -114,41 +73,3 @@ plainRun k m budget log = plainBy (length log ∷ []) k m budget log
 -- "A step or clock is a run of 1 without logs."
 unfoldable pub plainStep : Machine → Memory → PlainAnswer
 plainStep k m = plainBy [] k m 1 []
-
--- THE PIPELINED RUN
--- "For the pipeline the limit is 262,145"
-abbrev pub pipeLimit : ℕ
-pipeLimit = 262145
-
-unfoldable pub pipeRefusal : Pipeline → (size budget : ℕ) → List ℕ → ℕ
-pipeRefusal k size budget logs =
-    lowest
-    ((1, sizeRefused size) ∷ (3, budgetRefused pipeLimit (k .cycles) budget) ∷ (4, logRefused logs budget) ∷ (5, recordRefused k) ∷ [])
-
-pub record PipeAnswer : Type 0 where
-  pub number : ℕ
-  pub pipeline : Pipeline
-  pub memory : Memory
-  pub addresses : List ℕ
-  pub cycles : List ℕ
-
-abbrev pub pipeAnswer : ℕ → Pipeline → Memory → List ℕ → List ℕ → PipeAnswer
-pipeAnswer n k m a y = record { number = n; pipeline = k; memory = m; addresses = a; cycles = y }
-
-unfoldable pub pipeDone : Piped → List ℕ → List ℕ → PipeAnswer
-pipeDone p a y = pipeAnswer 0 (p .pipeline) (p .memory) (laid (p .addressLog) a) (laid (p .cycleLog) y)
-
-unfoldable pub pipeBy : Settings → List ℕ → Pipeline → Memory → ℕ → List ℕ → List ℕ → PipeAnswer
-pipeBy g logs k m budget a y =
-    let n = pipeRefusal k (length m) budget logs in
-    cond (eqb n 0) (pipeDone (clocks g (pipedOf k m) budget) a y) (pipeAnswer n k m a y)
-
-unfoldable pub pipeRun : Settings → Pipeline → Memory → ℕ → List ℕ → List ℕ → PipeAnswer
-pipeRun g k m budget a y = pipeBy g (length a ∷ length y ∷ []) k m budget a y
-
--- a run without logs, and a clock, which is one of 1
-unfoldable pub pipeRunUnlogged : Settings → Pipeline → Memory → ℕ → PipeAnswer
-pipeRunUnlogged g k m budget = pipeBy g [] k m budget [] []
-
-unfoldable pub pipeClock : Settings → Pipeline → Memory → PipeAnswer
-pipeClock g k m = pipeRunUnlogged g k m 1

@@ -10,19 +10,6 @@ pub use Rattle.machine.specs.declared.FetchAnswer.{FetchAnswer}
 pub use Rattle.machine.specs.declared.Decoded.{Decoded}
 pub use Rattle.machine.specs.declared.Executed.{Executed}
 pub use Rattle.machine.specs.declared.Accessed.{Accessed}
-pub use Rattle.machine.specs.declared.Retired.{Retired}
-pub use Rattle.machine.specs.declared.StageD.{StageD}
-pub use Rattle.machine.specs.declared.StageD.the-variants.{BubbleD as bubbleD, InD as inD}
-pub use Rattle.machine.specs.declared.StageE.{StageE}
-pub use Rattle.machine.specs.declared.StageE.the-variants.{BubbleE as bubbleE, InE as inE}
-pub use Rattle.machine.specs.declared.StageM.{StageM}
-pub use Rattle.machine.specs.declared.StageM.the-variants.{BubbleM as bubbleM, InM as inM}
-pub use Rattle.machine.specs.declared.StageW.{StageW}
-pub use Rattle.machine.specs.declared.StageW.the-variants.{BubbleW as bubbleW, InW as inW}
-pub use Rattle.machine.specs.declared.Kept.{Kept}
-pub use Rattle.machine.specs.declared.Kept.the-variants.{NoneKept as noneKept, LastKept as lastKept}
-pub use Rattle.machine.specs.declared.Kinds.{Kinds}
-pub use Rattle.machine.specs.declared.Pipeline.{Pipeline}
 
 -- "Status: AOK 1, HLT 2, ADR 3, INS 4."
 unfoldable pub statusNumber : Status → ℕ

@@ -1,4 +1,4 @@
-// The numbers of document 01 that the code names, and the types of both engines. What they mean, document 01's rules, is in specs/.
+// The numbers of document 01 that the code names, and the types of instructions and of the plain engine. What they mean, document 01's rules, is in specs/.
 
 // The codes that a rule names by themselves.
 pub const HALT: u8 = 0;
@@ -22,12 +22,10 @@ pub const RSP: u8 = 4;
 
 pub const NONE: u8 = 15;
 
-// The most that is not refused: bytes of memory, instructions of the plain engine, cycles of the pipeline.
+// The most that is not refused: bytes of memory, instructions of the plain engine.
 pub const MEMORY_LIMIT: usize = 4096;
 
 pub const PLAIN_LIMIT: u64 = 65536;
-
-pub const PIPE_LIMIT: u64 = 262145;
 
 // AOK, or why a machine stopped.
 pub enum Status {
@@ -94,60 +92,4 @@ pub struct Accessed {
     pub holds: bool,
     pub word: u64,
     pub status: Status,
-}
-
-// What is kept of the last instruction retired with AOK, for its follower's charge.
-pub struct Retired {
-    pub instruction: Instruction,
-    pub holds: bool,
-}
-
-// Each stage holds an instruction, or a bubble.
-pub enum StageD {
-    BubbleD,
-    InD(Instruction),
-}
-
-pub enum StageE {
-    BubbleE,
-    InE(Decoded),
-}
-
-pub enum StageM {
-    BubbleM,
-    InM(Executed),
-}
-
-pub enum StageW {
-    BubbleW,
-    InW(Accessed),
-}
-
-pub enum Kept {
-    NoneKept,
-    LastKept(Retired),
-}
-
-// The cycles charged so far, by kind.
-pub struct Kinds {
-    pub loaduse: u64,
-    pub mispredict: u64,
-    pub returned: u64,
-}
-
-// The pipelined engine's record: F is the predicted address alone.
-pub struct Pipeline {
-    pub predicted: u64,
-    pub d: StageD,
-    pub e: StageE,
-    pub m: StageM,
-    pub w: StageW,
-    pub registers: [u64; REGISTERS],
-    pub codes: Codes,
-    pub status: Status,
-    pub last: u64,
-    pub retired: u64,
-    pub cycles: u64,
-    pub kinds: Kinds,
-    pub kept: Kept,
 }

@@ -3,19 +3,19 @@ use mathlib.Core.Path.{_≡_, refl, _∙_}
 use mathlib.Core.Bool.{true, false}
 use mathlib.Core.List.{List, _++_}
 use Prim.Native.Nat.{ℕ}
-use Rattle.machine.specs.declared.Pipeline.{Pipeline}
+use Rattle.clocked.specs.declared.Pipeline.{Pipeline}
 use Rattle.machine.specs.declared.Status.{Status}
-use Rattle.machine.specs.declared.StageD.{StageD}
-use Rattle.machine.specs.declared.StageD.the-variants.{BubbleD as bubbleD, InD as inD}
-use Rattle.machine.specs.declared.StageW.{StageW}
-use Rattle.machine.specs.declared.StageW.the-variants.{BubbleW as bubbleW, InW as inW}
+use Rattle.clocked.specs.declared.StageD.{StageD}
+use Rattle.clocked.specs.declared.StageD.the-variants.{BubbleD as bubbleD, InD as inD}
+use Rattle.clocked.specs.declared.StageW.{StageW}
+use Rattle.clocked.specs.declared.StageW.the-variants.{BubbleW as bubbleW, InW as inW}
 use Rattle.machine.specs.Types.{isBad}
 use Rattle.machine.specs.Memory.{Memory, Registers}
-use Rattle.machine.specs.Prediction.{asIn01}
-use Rattle.machine.specs.Pipeline.{Piped, afterE, afterM, source, sourceM, sourceW, decodedD, badInW, memoryAfter, registersAfter}
-use Rattle.machine.specs.Pipeline.{lastAfter, retiredAfter, kindsAfter, logged, advanced, stoppedIn, clockBy, clock, waits}
-use Rattle.machine.specs.Pipeline.{mispredicts, returns, fails, fetchAddress, fetchedNow, nextF, nextD, nextE, nextM, nextCodes}
-use Rattle.laws.specs.Stops.{sound}
+use Rattle.clocked.specs.Prediction.{asIn01}
+use Rattle.clocked.specs.Pipeline.{Piped, afterE, afterM, source, sourceM, sourceW, decodedD, badInW, memoryAfter, registersAfter}
+use Rattle.clocked.specs.Pipeline.{lastAfter, retiredAfter, kindsAfter, logged, advanced, stoppedIn, clockBy, clock, waits}
+use Rattle.clocked.specs.Pipeline.{mispredicts, returns, fails, fetchAddress, fetchedNow, nextF, nextD, nextE, nextM, nextCodes}
+use Rattle.laws.specs.Status.{sound}
 use Rattle.retiring.specs.Retiring.{statusAfter, tallyAfter}
 use Rattle.retiring.specs.declared.Tally.{Tally}
 use Rattle.flow.specs.declared.Flow.{Flow}

@@ -7,13 +7,15 @@ use native.Mathlib.Omega.{arith}
 use lib.Dec.{eqb, ltb}
 use lib.ListN.{length}
 use borrow.Author.Tests.{eq-eqb, ne-eqb, ltb-false}
-use Rattle.machine.specs.declared.Pipeline.{Pipeline}
+use Rattle.clocked.specs.declared.Pipeline.{Pipeline}
 use Rattle.answers.specs.Logs.{laid-none}
 use Rattle.machine.specs.Memory.{Memory}
-use Rattle.machine.specs.Prediction.{asIn01}
-use Rattle.machine.specs.Pipeline.{pipedOf, clocks}
-use Rattle.machine.specs.Runs.{sizeRefused, budgetRefused, logRefused, refusedInD, refusedInE, refusedInM, refusedInW, refusedKept, countsRefused}
-use Rattle.machine.specs.Runs.{recordRefused, lowest, pipeLimit, pipeRefusal, PipeAnswer, pipeAnswer, pipeDone, pipeBy, pipeRun, pipeRunUnlogged, pipeClock}
+use Rattle.clocked.specs.Prediction.{asIn01}
+use Rattle.clocked.specs.Pipeline.{pipedOf, clocks}
+use Rattle.machine.specs.Runs.{sizeRefused, budgetRefused, logRefused}
+use Rattle.clocked.specs.PipeRuns.{refusedInD, refusedInE, refusedInM, refusedInW, refusedKept, countsRefused}
+use Rattle.machine.specs.Runs.{lowest}
+use Rattle.clocked.specs.PipeRuns.{recordRefused, pipeLimit, pipeRefusal, PipeAnswer, pipeAnswer, pipeDone, pipeBy, pipeRun, pipeRunUnlogged, pipeClock}
 use Rattle.pipe.specs.Parts.{refusalBy, answerBy}
 use Rattle.answers.specs.Refusals.{failed}
 use Rattle.laws.specs.Tests.{neither}

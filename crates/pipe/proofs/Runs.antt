@@ -8,22 +8,23 @@ use native.Mathlib.Omega.{arith}
 use lib.Dec.{ltb}
 use lib.ListN.{length, length-append}
 use borrow.Author.Tests.{ltb-false}
-use Rattle.laws.specs.Registers.{length-after-w}
+use Rattle.clock_laws.specs.Registers.{length-after-w}
 use Rattle.laws.specs.Tests.{neither}
-use Rattle.laws.specs.Stops.{stays}
+use Rattle.clock_laws.specs.Stops.{stays}
 use Rattle.answers.specs.Logs.{laid-more, laid-length}
-use Rattle.machine.specs.declared.Pipeline.{Pipeline}
+use Rattle.clocked.specs.declared.Pipeline.{Pipeline}
 use Rattle.machine.specs.declared.Status.{Status}
-use Rattle.machine.specs.declared.Kinds.{Kinds}
-use Rattle.machine.specs.declared.Kept.{Kept}
-use Rattle.machine.specs.declared.StageW.{StageW}
-use Rattle.machine.specs.declared.StageW.the-variants.{BubbleW as bubbleW, InW as inW}
+use Rattle.clocked.specs.declared.Kinds.{Kinds}
+use Rattle.clocked.specs.declared.Kept.{Kept}
+use Rattle.clocked.specs.declared.StageW.{StageW}
+use Rattle.clocked.specs.declared.StageW.the-variants.{BubbleW as bubbleW, InW as inW}
 use Rattle.machine.specs.Types.{isBad}
 use Rattle.machine.specs.Memory.{Memory}
-use Rattle.machine.specs.Prediction.{asIn01}
-use Rattle.machine.specs.Charges.{Reason, free, waited, wronglyGuessed, returned, counted, reasonFrom}
-use Rattle.machine.specs.Pipeline.{Piped, pipedOf, badInW, memoryAfter, registersAfter, retiredAfter, kindsAfter, logged, clock, clocks}
-use Rattle.machine.specs.Runs.{laid, countsRefused, pipeLimit, PipeAnswer, pipeAnswer, pipeDone}
+use Rattle.clocked.specs.Prediction.{asIn01}
+use Rattle.clocked.specs.Charges.{Reason, free, waited, wronglyGuessed, returned, counted, reasonFrom}
+use Rattle.clocked.specs.Pipeline.{Piped, pipedOf, badInW, memoryAfter, registersAfter, retiredAfter, kindsAfter, logged, clock, clocks}
+use Rattle.machine.specs.Runs.{laid}
+use Rattle.clocked.specs.PipeRuns.{countsRefused, pipeLimit, PipeAnswer, pipeAnswer, pipeDone}
 use Rattle.retiring.specs.declared.Tally.{Tally}
 use Rattle.retiring.specs.Retiring.{Small, retires, statusAfter, tallyAfter}
 use Rattle.flow.specs.declared.Flow.{Flow}

@@ -9,21 +9,22 @@ use Rattle.machine.specs.declared.Instruction.{Instruction}
 use Rattle.machine.specs.declared.Decoded.{Decoded}
 use Rattle.machine.specs.declared.Executed.{Executed}
 use Rattle.machine.specs.declared.Accessed.{Accessed}
-use Rattle.machine.specs.declared.Retired.{Retired}
-use Rattle.machine.specs.declared.Pipeline.{Pipeline}
-use Rattle.machine.specs.declared.StageD.{StageD}
-use Rattle.machine.specs.declared.StageD.the-variants.{BubbleD as bubbleD, InD as inD}
-use Rattle.machine.specs.declared.StageE.{StageE}
-use Rattle.machine.specs.declared.StageE.the-variants.{BubbleE as bubbleE, InE as inE}
-use Rattle.machine.specs.declared.StageM.{StageM}
-use Rattle.machine.specs.declared.StageM.the-variants.{BubbleM as bubbleM, InM as inM}
-use Rattle.machine.specs.declared.StageW.{StageW}
-use Rattle.machine.specs.declared.StageW.the-variants.{BubbleW as bubbleW, InW as inW}
-use Rattle.machine.specs.declared.Kept.{Kept}
-use Rattle.machine.specs.declared.Kept.the-variants.{NoneKept as noneKept, LastKept as lastKept}
+use Rattle.clocked.specs.declared.Retired.{Retired}
+use Rattle.clocked.specs.declared.Pipeline.{Pipeline}
+use Rattle.clocked.specs.declared.StageD.{StageD}
+use Rattle.clocked.specs.declared.StageD.the-variants.{BubbleD as bubbleD, InD as inD}
+use Rattle.clocked.specs.declared.StageE.{StageE}
+use Rattle.clocked.specs.declared.StageE.the-variants.{BubbleE as bubbleE, InE as inE}
+use Rattle.clocked.specs.declared.StageM.{StageM}
+use Rattle.clocked.specs.declared.StageM.the-variants.{BubbleM as bubbleM, InM as inM}
+use Rattle.clocked.specs.declared.StageW.{StageW}
+use Rattle.clocked.specs.declared.StageW.the-variants.{BubbleW as bubbleW, InW as inW}
+use Rattle.clocked.specs.declared.Kept.{Kept}
+use Rattle.clocked.specs.declared.Kept.the-variants.{NoneKept as noneKept, LastKept as lastKept}
 use Rattle.machine.specs.Table.{rowOf, is}
-use Rattle.machine.specs.Runs.{instructionRefused, refusedInD, refusedInE, refusedInM, refusedInW, refusedKept}
-use Rattle.machine.specs.Runs.{countsRefused, recordRefused, sizeRefused, budgetRefused, pipeLimit, lowest}
+use Rattle.clocked.specs.PipeRuns.{instructionRefused, refusedInD, refusedInE, refusedInM, refusedInW, refusedKept}
+use Rattle.machine.specs.Runs.{sizeRefused, budgetRefused, lowest}
+use Rattle.clocked.specs.PipeRuns.{countsRefused, recordRefused, pipeLimit}
 use Rattle.stage.specs.declared.forwarding.Targets.{Targets}
 use Rattle.stage.specs.Forwarding.{targetsM, targetsW}
 use Rattle.flow.specs.Moving.{aheadOf}

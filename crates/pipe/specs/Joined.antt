@@ -7,17 +7,18 @@ use Prim.Native.Nat.{ℕ, zero, suc, _+_, _-_}
 use native.Mathlib.Nat.{add-zero, add-suc}
 use native.Mathlib.Omega.{arith}
 use lib.ListN.{length, take, drop, length-append}
-use Rattle.machine.specs.declared.Pipeline.{Pipeline}
-use Rattle.machine.specs.declared.StageD.{StageD}
-use Rattle.machine.specs.declared.StageD.the-variants.{BubbleD as bubbleD, InD as inD}
-use Rattle.machine.specs.declared.StageW.{StageW}
-use Rattle.machine.specs.declared.StageW.the-variants.{BubbleW as bubbleW, InW as inW}
+use Rattle.clocked.specs.declared.Pipeline.{Pipeline}
+use Rattle.clocked.specs.declared.StageD.{StageD}
+use Rattle.clocked.specs.declared.StageD.the-variants.{BubbleD as bubbleD, InD as inD}
+use Rattle.clocked.specs.declared.StageW.{StageW}
+use Rattle.clocked.specs.declared.StageW.the-variants.{BubbleW as bubbleW, InW as inW}
 use Rattle.machine.specs.Types.{isBad}
 use Rattle.machine.specs.Memory.{Memory}
-use Rattle.machine.specs.Prediction.{Settings}
-use Rattle.machine.specs.Pipeline.{Piped, pipedOf, source, sourceM, sourceW, waits, mispredicts, returns, fails, fetchAddress, fetchedNow, nextF}
-use Rattle.machine.specs.Pipeline.{nextD, nextE, nextM, nextCodes, decodedD, retiredAfter, logged, advanced, stoppedIn, clockBy, clock, clocks}
-use Rattle.machine.specs.Runs.{laid, pipeRefusal, PipeAnswer, pipeAnswer, pipeDone, pipeBy, pipeRun, pipeRunUnlogged}
+use Rattle.clocked.specs.Prediction.{Settings}
+use Rattle.clocked.specs.Pipeline.{Piped, pipedOf, source, sourceM, sourceW, waits, mispredicts, returns, fails, fetchAddress, fetchedNow, nextF}
+use Rattle.clocked.specs.Pipeline.{nextD, nextE, nextM, nextCodes, decodedD, retiredAfter, logged, advanced, stoppedIn, clockBy, clock, clocks}
+use Rattle.machine.specs.Runs.{laid}
+use Rattle.clocked.specs.PipeRuns.{pipeRefusal, PipeAnswer, pipeAnswer, pipeDone, pipeBy, pipeRun, pipeRunUnlogged}
 use Rattle.answers.specs.Logs.{laid-joined}
 use Rattle.answers.specs.Refusals.{ran}
 use Rattle.answers.specs.Joined.{Engine, moved}

@@ -4,12 +4,13 @@ use mathlib.Core.Bool.{Bool, cond}
 use mathlib.Core.List.{List, [], _∷_}
 use lib.Dec.{eqb}
 use lib.ListN.{length, set}
-use Rattle.machine.specs.declared.Pipeline.{Pipeline}
+use Rattle.clocked.specs.declared.Pipeline.{Pipeline}
 use Rattle.machine.specs.declared.Status.{Status}
 use Rattle.machine.specs.Memory.{Memory, Registers}
-use Rattle.machine.specs.Prediction.{asIn01}
-use Rattle.machine.specs.Pipeline.{pipedOf, clocks}
-use Rattle.machine.specs.Runs.{sizeRefused, budgetRefused, recordRefused, pipeLimit, lowest, PipeAnswer, pipeAnswer, pipeDone}
+use Rattle.clocked.specs.Prediction.{asIn01}
+use Rattle.clocked.specs.Pipeline.{pipedOf, clocks}
+use Rattle.machine.specs.Runs.{sizeRefused, budgetRefused, lowest}
+use Rattle.clocked.specs.PipeRuns.{recordRefused, pipeLimit, PipeAnswer, pipeAnswer, pipeDone}
 use Rattle.flow.specs.declared.Flow.{Flow}
 use Rattle.flow.specs.Moving.{aheadOf}
 use Rattle.retiring.specs.declared.Tally.{Tally}

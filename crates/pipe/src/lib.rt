@@ -4,21 +4,21 @@ mod running;
 
 use crate::refusing::refusal;
 use crate::running::looped;
+use clocked::Kept;
+use clocked::Kinds;
+use clocked::Pipeline;
+use clocked::StageD;
+use clocked::StageE;
+use clocked::StageM;
+use clocked::StageW;
 use machine::Codes;
-use machine::Kept;
-use machine::Kinds;
-use machine::Pipeline;
 use machine::REGISTERS;
-use machine::StageD;
-use machine::StageE;
-use machine::StageM;
-use machine::StageW;
 use machine::Status;
 ghost use mathlib.Core.Path.{_≡_};
 ghost use mathlib.Core.List.{[]};
-ghost use Rattle.machine.specs.Prediction.{asIn01};
-ghost use Rattle.machine.specs.Pipeline.{pipeStart};
-ghost use Rattle.machine.specs.Runs.{pipeAnswer, pipeRun, pipeRunUnlogged, pipeClock};
+ghost use Rattle.clocked.specs.Prediction.{asIn01};
+ghost use Rattle.clocked.specs.Pipeline.{pipeStart};
+ghost use Rattle.clocked.specs.PipeRuns.{pipeAnswer, pipeRun, pipeRunUnlogged, pipeClock};
 ghost use Rattle.pipe.specs.Parts.{answerBy};
 
 // Document 01's number, 0 or that of a refusal, and the record.

@@ -1,22 +1,22 @@
 // The refusals, of which the lowest number wins.
 use answers::budget_refused;
 use answers::size_refused;
+use clocked::Kept;
+use clocked::PIPE_LIMIT;
+use clocked::Pipeline;
+use clocked::StageD;
+use clocked::StageE;
+use clocked::StageM;
+use clocked::StageW;
 use lookup::functions_of;
 use machine::CMOV;
 use machine::Instruction;
 use machine::JUMP;
-use machine::Kept;
 use machine::NONE;
 use machine::OPERATION;
-use machine::PIPE_LIMIT;
-use machine::Pipeline;
-use machine::StageD;
-use machine::StageE;
-use machine::StageM;
-use machine::StageW;
 ghost use mathlib.Core.Path.{_≡_};
-ghost use Rattle.machine.specs.Runs.{instructionRefused, refusedInD, refusedInE, refusedInM, refusedInW, refusedKept};
-ghost use Rattle.machine.specs.Runs.{countsRefused, recordRefused};
+ghost use Rattle.clocked.specs.PipeRuns.{instructionRefused, refusedInD, refusedInE, refusedInM, refusedInW, refusedKept};
+ghost use Rattle.clocked.specs.PipeRuns.{countsRefused, recordRefused};
 ghost use Rattle.pipe.specs.Parts.{refusalBy};
 
 // A register over 15, a code without functions, a move, jump or OPq function that the table has not.

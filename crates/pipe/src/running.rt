@@ -1,9 +1,9 @@
 // The loop of every entry, with the record taken apart for its length.
+use clocked::Pipeline;
 use flow::Ahead;
 use flow::Flow;
 use flow::advance;
 use isa::decoding::is_bad;
-use machine::Pipeline;
 use machine::REGISTERS;
 use machine::Status;
 use retiring::Tally;
@@ -16,9 +16,9 @@ use stage::signals::bad_in_w;
 ghost use mathlib.Core.Path.{_≡_};
 ghost use mathlib.Core.Bool.{false};
 ghost use Prim.Native.Nat.{_+_, _≤_};
-ghost use Rattle.machine.specs.Prediction.{asIn01};
-ghost use Rattle.machine.specs.Pipeline.{pipedOf, clocks};
-ghost use Rattle.machine.specs.Runs.{pipeLimit, pipeAnswer, pipeDone, countsRefused};
+ghost use Rattle.clocked.specs.Prediction.{asIn01};
+ghost use Rattle.clocked.specs.Pipeline.{pipedOf, clocks};
+ghost use Rattle.clocked.specs.PipeRuns.{pipeLimit, pipeAnswer, pipeDone, countsRefused};
 ghost use Rattle.pipe.specs.Parts.{flowOf, tallyOf, whole, noted};
 
 // What a clock moves.

@@ -1,12 +1,13 @@
 // The code meets the promises that the crate cases speaks of: each open operation, called, fits its own. A contract of theirs that said less
 // would fail here.
+use clocked::Pipeline;
 use machine::Codes;
 use machine::FetchAnswer;
 use machine::Machine;
-use machine::Pipeline;
 use machine::REGISTERS;
 ghost use mathlib.Core.List.{[]};
-ghost use Rattle.machine.specs.Runs.{plainAnswer, pipeAnswer};
+ghost use Rattle.machine.specs.Runs.{plainAnswer};
+ghost use Rattle.clocked.specs.PipeRuns.{pipeAnswer};
 ghost use Rattle.listing.specs.Reading.{answered};
 ghost use Rattle.edge.specs.Days.{dayAt};
 ghost use Rattle.edge.specs.Edge.{edge};

@@ -7,9 +7,10 @@ use lib.Dec.{eqb}
 use lib.ListN.{length, take, drop}
 use Rattle.machine.specs.Types.{isBad}
 use Rattle.machine.specs.Memory.{Memory, Registers, inside, load, store, value, written}
-use Rattle.machine.specs.Prediction.{Settings, meets}
-use Rattle.machine.specs.Pipeline.{Piped, clock, clockBy, stoppedIn}
-use Rattle.machine.specs.Runs.{plainRefusal, plainBy, plainAnswer, pipeRefusal, pipeBy, pipeAnswer, laid}
+use Rattle.clocked.specs.Prediction.{Settings, meets}
+use Rattle.clocked.specs.Pipeline.{Piped, clock, clockBy, stoppedIn}
+use Rattle.machine.specs.Runs.{plainRefusal, plainBy, plainAnswer, laid}
+use Rattle.clocked.specs.PipeRuns.{pipeRefusal, pipeBy, pipeAnswer}
 use Rattle.records.specs.Names.{Accessed, Machine, Pipeline, inW}
 
 -- "number, the record as given, nothing changed", by whatever number it is refused

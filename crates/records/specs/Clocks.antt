@@ -5,8 +5,8 @@ use mathlib.Core.Bool.{true, false}
 use mathlib.Core.List.{List, [], _∷_}
 use lib.ListN.{replicate}
 use Rattle.machine.specs.Memory.{Memory}
-use Rattle.machine.specs.Pipeline.{pipeStart}
-use Rattle.machine.specs.Runs.{PipeAnswer, pipeAnswer}
+use Rattle.clocked.specs.Pipeline.{pipeStart}
+use Rattle.clocked.specs.PipeRuns.{PipeAnswer, pipeAnswer}
 use Rattle.records.specs.Names.{Instruction, Status, aok, hlt, adr, ins}
 use Rattle.records.specs.Given.{Change, image, given, coded, registers, codes, stopped, counts, keeps, F, D, E, M, W, nop, cmov, irmovq}
 use Rattle.records.specs.Given.{rmmovq, mrmovq, operation, jump, call, ret, pushq, popq, fetchedAs, instruction}

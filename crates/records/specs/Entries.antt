@@ -5,10 +5,11 @@ use mathlib.Core.Bool.{true, cond}
 use mathlib.Core.List.{List, [], _∷_}
 use lib.ListN.{replicate}
 use Rattle.machine.specs.Memory.{Memory}
-use Rattle.machine.specs.Prediction.{asIn01}
+use Rattle.clocked.specs.Prediction.{asIn01}
 use Rattle.machine.specs.Plain.{plainOf, plainStart}
-use Rattle.machine.specs.Premise.{writesByte, hasByte}
-use Rattle.machine.specs.Runs.{PlainAnswer, plainAnswer, plainRefusal as plainRefuses, plainStep, pipeRefusal, pipeRunUnlogged, pipeClock}
+use Rattle.clocked.specs.Premise.{writesByte, hasByte}
+use Rattle.machine.specs.Runs.{PlainAnswer, plainAnswer, plainRefusal as plainRefuses, plainStep}
+use Rattle.clocked.specs.PipeRuns.{pipeRefusal, pipeRunUnlogged, pipeClock}
 use Rattle.records.specs.Names.{Instruction, Machine, Status, aok, hlt, adr, ins}
 use Rattle.records.specs.Given.{Change, image, given, coded, fresh, with, stopped, counts, keeps, D, E, M, W, nop, cmov, operation, jump}
 use Rattle.records.specs.Given.{popq, unknown, fetchedAs, instruction}

@@ -5,7 +5,7 @@ use mathlib.Core.List.{List, [], _∷_, _++_}
 use lib.Dec.{eqb}
 use lib.ListN.{set, replicate}
 use Rattle.machine.specs.Memory.{Memory, Registers}
-use Rattle.machine.specs.Pipeline.{pipeStart}
+use Rattle.clocked.specs.Pipeline.{pipeStart}
 use Rattle.records.specs.Names.{Status, aok, Codes, Instruction, StageD, inD, StageE, inE, StageM, inM, StageW, inW, Kept, lastKept, Kinds, Pipeline}
 
 -- MEMORY

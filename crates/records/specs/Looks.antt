@@ -8,9 +8,10 @@ use lib.ListN.{getD}
 use Rattle.machine.specs.Types.{statusNumber, codesNumber}
 use Rattle.machine.specs.Words.{number}
 use Rattle.machine.specs.Memory.{Memory}
-use Rattle.machine.specs.Prediction.{asIn01}
-use Rattle.machine.specs.Runs.{PlainAnswer, PipeAnswer, plainRun, pipeRun, pipeRunUnlogged}
-use Rattle.machine.specs.Computing.{computing}
+use Rattle.clocked.specs.Prediction.{asIn01}
+use Rattle.machine.specs.Runs.{PlainAnswer, plainRun}
+use Rattle.clocked.specs.PipeRuns.{PipeAnswer, pipeRun, pipeRunUnlogged}
+use Rattle.clocked.specs.Computing.{computing}
 use Rattle.records.specs.Names.{Instruction, Decoded, Executed, Accessed, Retired, Machine, bubbleD, inD, bubbleE, inE}
 use Rattle.records.specs.Names.{bubbleM, inM, bubbleW, inW, noneKept, lastKept}
 use Rattle.records.specs.Given.{Change, with}

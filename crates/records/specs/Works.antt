@@ -4,8 +4,8 @@ use Prim.Native.String.{String}
 use mathlib.Core.Bool.{true, false}
 use mathlib.Core.List.{List, [], _∷_}
 use Rattle.machine.specs.Memory.{Memory}
-use Rattle.machine.specs.Prediction.{asIn01}
-use Rattle.machine.specs.Runs.{pipeRunUnlogged}
+use Rattle.clocked.specs.Prediction.{asIn01}
+use Rattle.clocked.specs.PipeRuns.{pipeRunUnlogged}
 use Rattle.records.specs.Names.{Instruction, aok, hlt, ins}
 use Rattle.records.specs.Given.{Change, image, with, file, registers, codes, D, E, M, W, nop, cmov, irmovq, rmmovq, mrmovq, operation, jump, call}
 use Rattle.records.specs.Given.{ret, pushq, popq, fetchedAs}

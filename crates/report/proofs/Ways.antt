@@ -11,13 +11,13 @@ use lib.Dec.{eqb}
 use lib.ListN.{length, getD, take, drop, replicate}
 use borrow.Author.Tests.{eq-eqb, ne-eqb}
 use Rattle.machine.specs.declared.Status.{Status}
-use Rattle.machine.specs.declared.Kinds.{Kinds}
+use Rattle.clocked.specs.declared.Kinds.{Kinds}
 use Rattle.machine.specs.declared.Codes.{Codes}
-use Rattle.machine.specs.declared.Pipeline.{Pipeline}
+use Rattle.clocked.specs.declared.Pipeline.{Pipeline}
 use Rattle.machine.specs.Types.{codesNumber}
-use Rattle.machine.specs.Prediction.{asIn01}
-use Rattle.machine.specs.Pipeline.{pipeStart}
-use Rattle.machine.specs.Runs.{PipeAnswer, pipeAnswer, pipeRunUnlogged}
+use Rattle.clocked.specs.Prediction.{asIn01}
+use Rattle.clocked.specs.Pipeline.{pipeStart}
+use Rattle.clocked.specs.PipeRuns.{PipeAnswer, pipeAnswer, pipeRunUnlogged}
 use Rattle.text.specs.Bytes.{bytes}
 use Rattle.text.specs.Decimal.{decimal}
 use Rattle.text.specs.Put.{Put, put-nothing, put-both, put-front, written}

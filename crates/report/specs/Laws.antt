@@ -7,10 +7,12 @@ use native.Mathlib.Omega.{arith}
 use lib.ListN.{length}
 use borrow.Author.Tests.{ne-eqb, lt-ltb}
 use Rattle.machine.specs.Memory.{Memory}
-use Rattle.machine.specs.Charges.{noKinds}
-use Rattle.machine.specs.Pipeline.{pipeStart}
-use Rattle.machine.specs.Runs.{sizeRefused, budgetRefused, logRefused, recordRefused, countsRefused, refusedInD, refusedInE, refusedInM}
-use Rattle.machine.specs.Runs.{refusedInW, refusedKept, lowest, pipeRefusal, pipeDone, pipeBy, pipeRunUnlogged}
+use Rattle.clocked.specs.Charges.{noKinds}
+use Rattle.clocked.specs.Pipeline.{pipeStart}
+use Rattle.machine.specs.Runs.{sizeRefused, budgetRefused, logRefused}
+use Rattle.clocked.specs.PipeRuns.{recordRefused, countsRefused, refusedInD, refusedInE, refusedInM}
+use Rattle.machine.specs.Runs.{lowest}
+use Rattle.clocked.specs.PipeRuns.{refusedInW, refusedKept, pipeRefusal, pipeDone, pipeBy, pipeRunUnlogged}
 use Rattle.text.specs.Bytes.{bytes}
 use Rattle.text.specs.Put.{written-within}
 use Rattle.text.specs.Decimal.{digits, decimal}

@@ -1,7 +1,7 @@
 // The report of a run: document 01's lines, made from the answer of the run.
+use clocked::Kinds;
+use clocked::Pipeline;
 use machine::Codes;
-use machine::Kinds;
-use machine::Pipeline;
 use machine::Status;
 use text::put_byte;
 use text::put_decimal;

@@ -7,18 +7,18 @@ use borrow.Author.Tests.{eq-eqb, ne-eqb}
 use Rattle.machine.specs.declared.Status.the-variants.{Aok as aok}
 use Rattle.machine.specs.declared.Instruction.{Instruction}
 use Rattle.machine.specs.declared.Accessed.{Accessed}
-use Rattle.machine.specs.declared.Retired.{Retired}
-use Rattle.machine.specs.declared.StageW.{StageW}
-use Rattle.machine.specs.declared.StageW.the-variants.{BubbleW as bubbleW, InW as inW}
-use Rattle.machine.specs.declared.Kept.{Kept}
-use Rattle.machine.specs.declared.Kept.the-variants.{NoneKept as noneKept, LastKept as lastKept}
-use Rattle.machine.specs.declared.Kinds.{Kinds}
+use Rattle.clocked.specs.declared.Retired.{Retired}
+use Rattle.clocked.specs.declared.StageW.{StageW}
+use Rattle.clocked.specs.declared.StageW.the-variants.{BubbleW as bubbleW, InW as inW}
+use Rattle.clocked.specs.declared.Kept.{Kept}
+use Rattle.clocked.specs.declared.Kept.the-variants.{NoneKept as noneKept, LastKept as lastKept}
+use Rattle.clocked.specs.declared.Kinds.{Kinds}
 use Rattle.machine.specs.Types.{isBad}
 use Rattle.machine.specs.Table.{is}
 use Rattle.machine.specs.Stages.{sourceA, sourceB, loadedTarget}
-use Rattle.machine.specs.Prediction.{asIn01, mispredicted, meets, loadUse}
-use Rattle.machine.specs.Charges.{Reason, free, waited, wronglyGuessed, returned, amount, reasonBehind, reasonFrom, counted, retiredOf}
-use Rattle.machine.specs.Pipeline.{badInW, lastAfter, retiredAfter, kindsAfter, keptAfter}
+use Rattle.clocked.specs.Prediction.{asIn01, mispredicted, meets, loadUse}
+use Rattle.clocked.specs.Charges.{Reason, free, waited, wronglyGuessed, returned, amount, reasonBehind, reasonFrom, counted, retiredOf}
+use Rattle.clocked.specs.Pipeline.{badInW, lastAfter, retiredAfter, kindsAfter, keptAfter}
 use Rattle.retiring.specs.declared.Tally.{Tally}
 use Rattle.retiring.specs.Retiring.{countedBy, keptBy, retires, statusAfter, tallyAfter}
 

@@ -5,15 +5,15 @@ use lib.Dec.{eqb}
 use Rattle.machine.specs.declared.Status.{Status}
 use Rattle.machine.specs.declared.Status.the-variants.{Aok as aok}
 use Rattle.machine.specs.declared.Accessed.{Accessed}
-use Rattle.machine.specs.declared.StageW.{StageW}
-use Rattle.machine.specs.declared.StageW.the-variants.{BubbleW as bubbleW, InW as inW}
-use Rattle.machine.specs.declared.Kept.{Kept}
-use Rattle.machine.specs.declared.Kept.the-variants.{LastKept as lastKept}
-use Rattle.machine.specs.declared.Kinds.{Kinds}
+use Rattle.clocked.specs.declared.StageW.{StageW}
+use Rattle.clocked.specs.declared.StageW.the-variants.{BubbleW as bubbleW, InW as inW}
+use Rattle.clocked.specs.declared.Kept.{Kept}
+use Rattle.clocked.specs.declared.Kept.the-variants.{LastKept as lastKept}
+use Rattle.clocked.specs.declared.Kinds.{Kinds}
 use Rattle.machine.specs.Types.{isBad}
-use Rattle.machine.specs.Prediction.{asIn01}
-use Rattle.machine.specs.Charges.{retiredOf}
-use Rattle.machine.specs.Pipeline.{badInW, lastAfter, retiredAfter, kindsAfter, keptAfter}
+use Rattle.clocked.specs.Prediction.{asIn01}
+use Rattle.clocked.specs.Charges.{retiredOf}
+use Rattle.clocked.specs.Pipeline.{badInW, lastAfter, retiredAfter, kindsAfter, keptAfter}
 use Rattle.retiring.specs.declared.Tally.{Tally}
 
 -- a kind's count, by the amount that only this kind is charged

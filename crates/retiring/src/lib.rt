@@ -1,23 +1,23 @@
 // Retirement: the counts, the last address, the charges by kind, and the instruction kept for its follower's charge.
+use clocked::Kept;
+use clocked::Kinds;
+use clocked::Retired;
+use clocked::StageW;
 use isa::decoding::is_bad;
 use isa::decoding::loaded_target;
 use isa::decoding::source_a;
 use isa::decoding::source_b;
 use machine::Accessed;
 use machine::Instruction;
-use machine::Kept;
-use machine::Kinds;
 use machine::RET;
-use machine::Retired;
-use machine::StageW;
 use machine::Status;
 use stage::controls::afresh;
 use stage::signals::meets_either;
 use stage::signals::mispredicted;
 ghost use mathlib.Core.Path.{_≡_};
 ghost use Prim.Native.Nat.{_<_};
-ghost use Rattle.machine.specs.Prediction.{asIn01};
-ghost use Rattle.machine.specs.Charges.{amount, reasonBehind, reasonFrom};
+ghost use Rattle.clocked.specs.Prediction.{asIn01};
+ghost use Rattle.clocked.specs.Charges.{amount, reasonBehind, reasonFrom};
 ghost use Rattle.retiring.specs.Retiring.{countedBy, keptBy, retires as retiresOf, statusAfter, tallyAfter, Small};
 
 // The charges, by their reasons.

@@ -11,8 +11,8 @@ use Rattle.machine.specs.Types.{isBad}
 use Rattle.machine.specs.Memory.{Memory, Registers, value, written}
 use Rattle.machine.specs.Table.{is}
 use Rattle.machine.specs.Stages.{execute, access, newCodes, newMemory, sourceA, sourceB, resultTarget, loadedTarget, turned, straight}
-use Rattle.machine.specs.Prediction.{asIn01, guess, predictedNext, mispredicted, meets}
-use Rattle.machine.specs.Pipeline.{afterE, afterM, codesAfter, memoryAfter, wrong, retInD, retInE, retInM, badInW, returnedTo, mended}
+use Rattle.clocked.specs.Prediction.{asIn01, guess, predictedNext, mispredicted, meets}
+use Rattle.clocked.specs.Pipeline.{afterE, afterM, codesAfter, memoryAfter, wrong, retInD, retInE, retInM, badInW, returnedTo, mended}
 use Rattle.stage.specs.declared.forwarding.Targets.{Targets}
 use Rattle.stage.specs.declared.forwarding.Sources.{Sources}
 use Rattle.stage.specs.Forwarding.{noTargets, targetsOf, targetsM, targetsW, sourcesD, resultM, resultW, wordW, writtenBy, sourceBy, decodedBy}

@@ -1,15 +1,15 @@
 // Where the next instruction is fetched from, and where the one after it is expected.
 use crate::signals::mispredicted;
+use clocked::StageM;
+use clocked::StageW;
 use isa::executing::straight;
 use isa::executing::turned;
 use machine::Instruction;
 use machine::JUMP;
 use machine::RET;
-use machine::StageM;
-use machine::StageW;
 ghost use mathlib.Core.Path.{_≡_};
-ghost use Rattle.machine.specs.Prediction.{asIn01, predictedNext};
-ghost use Rattle.machine.specs.Pipeline.{returnedTo, mended as mendedOf};
+ghost use Rattle.clocked.specs.Prediction.{asIn01, predictedNext};
+ghost use Rattle.clocked.specs.Pipeline.{returnedTo, mended as mendedOf};
 
 // The word that ret in W read, else the predicted address.
 fn returned_to(w: StageW, predicted: u64) -> u64

@@ -3,17 +3,17 @@ use crate::addresses::predicted_next;
 use crate::forwarding::Targets;
 use crate::forwarding::no_targets;
 use crate::working::codes_after;
+use clocked::StageD;
+use clocked::StageE;
+use clocked::StageM;
 use machine::Codes;
 use machine::Instruction;
-use machine::StageD;
-use machine::StageE;
-use machine::StageM;
 ghost use mathlib.Core.Path.{_≡_};
 ghost use mathlib.Core.Bool.{cond};
 ghost use Rattle.stage.specs.Types.{bubbleD, inD, bubbleE, bubbleM};
 ghost use Rattle.stage.specs.Forwarding.{noTargets};
-ghost use Rattle.machine.specs.Prediction.{asIn01, predictedNext};
-ghost use Rattle.machine.specs.Pipeline.{codesAfter};
+ghost use Rattle.clocked.specs.Prediction.{asIn01, predictedNext};
+ghost use Rattle.clocked.specs.Pipeline.{codesAfter};
 
 // F is held for load-use and for ret.
 pub fn next_f(held: bool, predicted: u64, fetched: Instruction) -> u64

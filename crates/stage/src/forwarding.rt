@@ -1,4 +1,8 @@
 // Sources and targets, and decode with what is forwarded to it.
+use clocked::StageD;
+use clocked::StageE;
+use clocked::StageM;
+use clocked::StageW;
 use isa::decoding::loaded_target;
 use isa::decoding::result_target;
 use isa::decoding::source_a;
@@ -7,10 +11,6 @@ use machine::Decoded;
 use machine::Instruction;
 use machine::NONE;
 use machine::REGISTERS;
-use machine::StageD;
-use machine::StageE;
-use machine::StageM;
-use machine::StageW;
 ghost use mathlib.Core.Path.{_≡_};
 ghost use Rattle.stage.specs.Forwarding.{noTargets, targetsOf, targetsM, targetsW, sourcesD, resultM, resultW, wordW, sourceBy, decodedBy};
 

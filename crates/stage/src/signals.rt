@@ -1,17 +1,17 @@
 // The signals that the controls go by.
+use clocked::StageD;
+use clocked::StageE;
+use clocked::StageM;
+use clocked::StageW;
 use isa::decoding::is_bad;
 use machine::Instruction;
 use machine::JUMP;
 use machine::NONE;
 use machine::RET;
-use machine::StageD;
-use machine::StageE;
-use machine::StageM;
-use machine::StageW;
 ghost use mathlib.Core.Path.{_≡_};
 ghost use mathlib.Core.Bool.{_||_};
-ghost use Rattle.machine.specs.Prediction.{asIn01, meets as meetsOf, mispredicted as mispredictedOf};
-ghost use Rattle.machine.specs.Pipeline.{wrong as wrongOf, retInD, retInE, retInM, badInW};
+ghost use Rattle.clocked.specs.Prediction.{asIn01, meets as meetsOf, mispredicted as mispredictedOf};
+ghost use Rattle.clocked.specs.Pipeline.{wrong as wrongOf, retInD, retInE, retInM, badInW};
 
 // Register 15 as a source matches nothing.
 fn meets(target: u8, source: u8) -> bool

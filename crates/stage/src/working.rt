@@ -2,6 +2,9 @@
 use crate::forwarding::Targets;
 use crate::forwarding::result_w;
 use crate::forwarding::word_w;
+use clocked::StageE;
+use clocked::StageM;
+use clocked::StageW;
 use isa::accessing::access;
 use isa::accessing::update;
 use isa::decoding::write;
@@ -9,11 +12,8 @@ use isa::executing::execute;
 use isa::executing::new_codes;
 use machine::Codes;
 use machine::REGISTERS;
-use machine::StageE;
-use machine::StageM;
-use machine::StageW;
 ghost use mathlib.Core.Path.{_≡_};
-ghost use Rattle.machine.specs.Pipeline.{afterE, afterM, codesAfter, memoryAfter};
+ghost use Rattle.clocked.specs.Pipeline.{afterE, afterM, codesAfter, memoryAfter};
 ghost use Rattle.stage.specs.Forwarding.{writtenBy};
 
 // E's instruction after execution, on the codes as the clock began.

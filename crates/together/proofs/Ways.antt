@@ -4,12 +4,13 @@ use mathlib.Core.Path.{_≡_, sym, subst}
 use mathlib.Core.List.{List}
 use lib.ListN.{length}
 use Rattle.machine.specs.declared.Machine.{Machine}
-use Rattle.machine.specs.declared.Pipeline.{Pipeline}
+use Rattle.clocked.specs.declared.Pipeline.{Pipeline}
 use Rattle.machine.specs.Memory.{Memory}
 use Rattle.machine.specs.Plain.{plainStart}
-use Rattle.machine.specs.Pipeline.{pipeStart}
-use Rattle.machine.specs.Prediction.{asIn01}
-use Rattle.machine.specs.Runs.{PlainAnswer, PipeAnswer, plainRun, pipeRun}
+use Rattle.clocked.specs.Pipeline.{pipeStart}
+use Rattle.clocked.specs.Prediction.{asIn01}
+use Rattle.machine.specs.Runs.{PlainAnswer, plainRun}
+use Rattle.clocked.specs.PipeRuns.{PipeAnswer, pipeRun}
 use Rattle.account.specs.Statement.{Start}
 use Rattle.together.specs.Both.{BothAnswer, bothAnswer, bothRuns, AsDemanded, RunsBoth, both-agree}
 

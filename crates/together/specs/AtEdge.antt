@@ -9,11 +9,11 @@ use Rattle.machine.specs.declared.Codes.{Codes}
 use Rattle.machine.specs.Types.{isBad, statusNumber, codesNumber}
 use Rattle.machine.specs.Memory.{Memory}
 use Rattle.machine.specs.Plain.{Plain, isStopped, steps}
-use Rattle.machine.specs.Charges.{due}
-use Rattle.machine.specs.Prediction.{asIn01}
-use Rattle.machine.specs.Pipeline.{Piped, clocks}
-use Rattle.machine.specs.Premise.{Untouched}
-use Rattle.machine.specs.Runs.{PipeAnswer, pipeDone}
+use Rattle.clocked.specs.Charges.{due}
+use Rattle.clocked.specs.Prediction.{asIn01}
+use Rattle.clocked.specs.Pipeline.{Piped, clocks}
+use Rattle.clocked.specs.Premise.{Untouched}
+use Rattle.clocked.specs.PipeRuns.{PipeAnswer, pipeDone}
 use Rattle.account.specs.Statement.{Start, plainFrom, pipedFrom, DueBy, Agrees}
 use Rattle.account.specs.Theorem.{demand3}
 use Rattle.account.specs.Uses.{due-only, due-stopped, untouched-on, always}

@@ -6,9 +6,10 @@ use lib.ListN.{length}
 use Rattle.machine.specs.declared.Codes.{Codes}
 use Rattle.machine.specs.Memory.{Memory, Registers}
 use Rattle.machine.specs.Plain.{plainStart}
-use Rattle.machine.specs.Pipeline.{pipeStart}
-use Rattle.machine.specs.Prediction.{asIn01}
-use Rattle.machine.specs.Runs.{PlainAnswer, PipeAnswer, plainRun, pipeRun}
+use Rattle.clocked.specs.Pipeline.{pipeStart}
+use Rattle.clocked.specs.Prediction.{asIn01}
+use Rattle.machine.specs.Runs.{PlainAnswer, plainRun}
+use Rattle.clocked.specs.PipeRuns.{PipeAnswer, pipeRun}
 use Rattle.account.specs.Statement.{Start, plainFrom, pipedFrom}
 use Rattle.account.specs.TwoRuns.{Covered, RunsAgree, two-runs}
 

@@ -6,11 +6,11 @@ use mathlib.Core.List.{List, []}
 use native.Mathlib.Omega.{arith}
 use lib.Dec.{eqb}
 use lib.ListN.{length}
-use Rattle.machine.specs.declared.Pipeline.{Pipeline}
+use Rattle.clocked.specs.declared.Pipeline.{Pipeline}
 use Rattle.machine.specs.Memory.{Memory}
-use Rattle.machine.specs.Prediction.{asIn01}
-use Rattle.machine.specs.Pipeline.{pipedOf, clocks}
-use Rattle.machine.specs.Runs.{PipeAnswer, pipeAnswer, pipeRefusal, pipeDone, pipeBy, pipeRunUnlogged, pipeClock}
+use Rattle.clocked.specs.Prediction.{asIn01}
+use Rattle.clocked.specs.Pipeline.{pipedOf, clocks}
+use Rattle.clocked.specs.PipeRuns.{PipeAnswer, pipeAnswer, pipeRefusal, pipeDone, pipeBy, pipeRunUnlogged, pipeClock}
 use Rattle.answers.specs.Logs.{laid-none}
 use Rattle.answers.specs.Joined.{ones, ones-join}
 use Rattle.pipe.specs.Joined.{unlogged}

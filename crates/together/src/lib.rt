@@ -1,7 +1,8 @@
 // Both engines from one start, for a caller who wants to compare them.
 use machine::Codes;
 use machine::REGISTERS;
-ghost use Rattle.machine.specs.Runs.{plainAnswer, pipeAnswer};
+ghost use Rattle.machine.specs.Runs.{plainAnswer};
+ghost use Rattle.clocked.specs.PipeRuns.{pipeAnswer};
 ghost use Rattle.together.specs.Both.{startOf, bothAnswer, RunsBoth};
 
 // What each engine answers.

@@ -1,6 +1,6 @@
 use mathlib.Core.Path.{refl}
-use Rattle.machine.specs.Charges.{noKinds}
-use Rattle.machine.specs.Pipeline.{pipeStart}
+use Rattle.clocked.specs.Charges.{noKinds}
+use Rattle.clocked.specs.Pipeline.{pipeStart}
 use Rattle.pipe.proofs.start.Statement.{statement}
 use Rattle.pipe.proofs.start.Tie as tie
 

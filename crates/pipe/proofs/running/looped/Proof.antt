@@ -8,7 +8,7 @@ use Prim.Native.Nat.{_-_, _≤_}
 use native.Mathlib.Omega.{arith}
 use lib.ListN.{length}
 use borrow.Author.Needs.{needs}
-use Rattle.machine.specs.Pipeline.{pipedOf}
+use Rattle.clocked.specs.Pipeline.{pipedOf}
 use Rattle.pipe.specs.Parts.{whole}
 use Rattle.pipe.proofs.Runs.{Here, here-first, here-next, here-stopped, at-budget, at-stop, same-start, same-lengths, small-enough}
 use Rattle.pipe.proofs.running.looped.Statement.{statement}

@@ -2,9 +2,9 @@
 use Prim.Native.Nat.{ℕ}
 use mathlib.Core.Bool.{Bool, true, cond, not, _&&_, _||_, Bool·beq}
 use lib.Dec.{ltb, eqb}
-use Rattle.machine.specs.Types.{Instruction}
+use Rattle.clocked.specs.Record.{Instruction}
 use Rattle.machine.specs.Table.{is, jump}
 use Rattle.machine.specs.Stages.{sourceA, sourceB, loadedTarget, turned, straight}
 
 -- how a jump is predicted; document 01 has one rule
 pub data Rule : Type 0 where

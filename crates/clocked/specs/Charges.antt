@@ -4,10 +4,10 @@ use Prim.Native.Nat.{ℕ, zero, suc, _+_}
 use mathlib.Core.Bool.{cond, not, _&&_}
 use mathlib.Core.List.{List, [], _∷_, _++_}
 use lib.Dec.{eqb}
-use Rattle.machine.specs.Types.{Instruction, Accessed, Retired, Kept, noneKept, lastKept, Kinds}
+use Rattle.clocked.specs.Record.{Instruction, Accessed, Retired, Kept, noneKept, lastKept, Kinds}
 use Rattle.machine.specs.Table.{is, ret}
-use Rattle.machine.specs.Prediction.{Settings, mispredicted, loadUse}
+use Rattle.clocked.specs.Prediction.{Settings, mispredicted, loadUse}
 use Rattle.machine.specs.Plain.{Plain, fetched, accessed, steps}
 
 -- why an instruction is charged
 pub data Reason : Type 0 where

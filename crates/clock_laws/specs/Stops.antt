@@ -1,20 +1,11 @@
 -- What a stop leaves alone.
 use Prim.Native.Nat.{ℕ, zero, suc, _+_}
 use native.Mathlib.Nat.{zero-add, suc-add}
-use mathlib.Core.Path.{_≡_, refl, ap, _∙_}
-use mathlib.Core.Bool.{true, false}
-use Rattle.machine.specs.declared.Status.{Status}
-use Rattle.machine.specs.declared.Status.the-variants.{Aok as aok, Hlt as hlt, Adr as adr, Ins as ins}
+use mathlib.Core.Path.{_≡_, ap, _∙_}
+use mathlib.Core.Bool.{true}
 use Rattle.machine.specs.Types.{isBad}
-use Rattle.machine.specs.Prediction.{Settings}
-use Rattle.machine.specs.Pipeline.{Piped, clock, clocks}
-
-pub sound : (x : Status) → isBad x ≡ false → x ≡ aok
-unfolding isBad
-sound aok h = refl
-sound hlt h = cc
-sound adr h = cc
-sound ins h = cc
+use Rattle.clocked.specs.Prediction.{Settings}
+use Rattle.clocked.specs.Pipeline.{Piped, clock, clocks}
 
 -- "A step or clock on a stopped machine changes nothing, counts nothing and logs nothing."
 pub clock-still : (g : Settings) (p : Piped) → isBad (p .pipeline .status) ≡ true → clock g p ≡ p

@@ -2,14 +2,15 @@
 use Prim.Native.Nat.{ℕ, zero, suc, _+_}
 use mathlib.Core.Bool.{Bool, false, cond, _||_}
 use mathlib.Core.List.{List, [], _∷_, _++_}
-use Rattle.machine.specs.Types.{Pipeline, Instruction, Accessed, Codes, aok, isBad, Kinds}
-use Rattle.machine.specs.Types.{StageD, bubbleD, inD, StageE, bubbleE, inE, StageM, bubbleM, inM, StageW, bubbleW, inW, Kept, noneKept, lastKept}
+use Rattle.machine.specs.Types.{isBad}
+use Rattle.clocked.specs.Record.{Pipeline, Instruction, Accessed, Codes, aok, Kinds}
+use Rattle.clocked.specs.Record.{StageD, bubbleD, inD, StageE, bubbleE, inE, StageM, bubbleM, inM, StageW, bubbleW, inW, Kept, noneKept, lastKept}
 use Rattle.machine.specs.Memory.{Memory, Registers, value}
 use Rattle.machine.specs.Table.{is, ret}
 use Rattle.machine.specs.Fetch.{fetch}
 use Rattle.machine.specs.Stages.{decode, execute, access, newCodes, newMemory, newRegisters, resultTarget, loadedTarget, turned}
-use Rattle.machine.specs.Prediction.{Settings, predictedNext, mispredicted, meets, loadUse}
-use Rattle.machine.specs.Charges.{noKinds, counted, retiredOf, reasonFrom}
+use Rattle.clocked.specs.Prediction.{Settings, predictedNext, mispredicted, meets, loadUse}
+use Rattle.clocked.specs.Charges.{noKinds, counted, retiredOf, reasonFrom}
 
 -- the record, its memory, and what has been logged of each retirement so far: its address and its cycle
 pub record Piped : Type 0 where

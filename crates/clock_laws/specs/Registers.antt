@@ -8,12 +8,12 @@ use lib.Dec.{ltb, eqb}
 use lib.ListN.{length, set, length-set}
 use lib.Seq.{getD-set-same, getD-set-other}
 use Rattle.machine.specs.declared.Accessed.{Accessed}
-use Rattle.machine.specs.declared.StageW.{StageW}
-use Rattle.machine.specs.declared.StageW.the-variants.{BubbleW as bubbleW, InW as inW}
+use Rattle.clocked.specs.declared.StageW.{StageW}
+use Rattle.clocked.specs.declared.StageW.the-variants.{BubbleW as bubbleW, InW as inW}
 use Rattle.machine.specs.Memory.{Registers, value, written}
 use Rattle.machine.specs.Stages.{newRegisters, resultTarget, loadedTarget}
-use Rattle.machine.specs.Prediction.{meets}
-use Rattle.machine.specs.Pipeline.{pastBoth, registersAfter}
+use Rattle.clocked.specs.Prediction.{meets}
+use Rattle.clocked.specs.Pipeline.{pastBoth, registersAfter}
 
 -- a target of 15 meets no source
 pub meets-none : (q : ℕ) → meets 15 q ≡ false

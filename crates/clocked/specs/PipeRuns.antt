@@ -1,0 +1,88 @@
+-- The pipelined run: what each of its entries gives back, refusals included.
+use Prim.Native.Nat.{ℕ}
+use mathlib.Core.Bool.{Bool, false, cond, _&&_, _||_}
+use mathlib.Core.List.{List, [], _∷_}
+use lib.Dec.{ltb, leb, eqb}
+use lib.ListN.{length}
+use Rattle.machine.specs.Memory.{Memory}
+use Rattle.machine.specs.Table.{rowOf, is, cmov, operation, jump}
+use Rattle.machine.specs.Runs.{laid, sizeRefused, budgetRefused, logRefused, lowest}
+use Rattle.clocked.specs.Record.{Pipeline, Instruction, StageD, bubbleD, inD, StageE, bubbleE, inE, StageM, bubbleM, inM, StageW, bubbleW, inW}
+use Rattle.clocked.specs.Record.{Kept, noneKept, lastKept}
+use Rattle.clocked.specs.Prediction.{Settings}
+use Rattle.clocked.specs.Pipeline.{Piped, pipedOf, clocks}
+
+-- 5: "register number over 15, code without functions in the table, move or jump function over 6, OPq function over 3"
+unfoldable pub instructionRefused : Instruction → Bool
+instructionRefused i =
+    ltb 15 (i .ra) || (ltb 15 (i .rb)
+    || (eqb (rowOf (i .code) .functions) 0
+    || ((is cmov i || (is jump i || is operation i)) && leb (rowOf (i .code) .functions) (i .function))))
+
+unfoldable pub refusedInD : StageD → Bool
+refusedInD bubbleD = false
+refusedInD (inD i) = instructionRefused i
+
+unfoldable pub refusedInE : StageE → Bool
+refusedInE bubbleE = false
+refusedInE (inE x) = instructionRefused (x .instruction)
+
+unfoldable pub refusedInM : StageM → Bool
+refusedInM bubbleM = false
+refusedInM (inM x) = instructionRefused (x .instruction)
+
+unfoldable pub refusedInW : StageW → Bool
+refusedInW bubbleW = false
+refusedInW (inW w) = instructionRefused (w .instruction)
+
+unfoldable pub refusedKept : Kept → Bool
+refusedKept noneKept = false
+refusedKept (lastKept k) = instructionRefused (k .instruction)
+
+-- 5: "retired or a kind's count above cycles"
+unfoldable pub countsRefused : Pipeline → Bool
+countsRefused k =
+    ltb (k .cycles) (k .retired) || (ltb (k .cycles) (k .kinds .loaduse)
+    || (ltb (k .cycles) (k .kinds .mispredict) || ltb (k .cycles) (k .kinds .returned)))
+
+unfoldable pub recordRefused : Pipeline → Bool
+recordRefused k =
+    refusedInD (k .d) || (refusedInE (k .e) || (refusedInM (k .m) || (refusedInW (k .w) || (refusedKept (k .kept) || countsRefused k))))
+
+-- THE PIPELINED RUN
+-- "For the pipeline the limit is 262,145"
+abbrev pub pipeLimit : ℕ
+pipeLimit = 262145
+
+unfoldable pub pipeRefusal : Pipeline → (size budget : ℕ) → List ℕ → ℕ
+pipeRefusal k size budget logs =
+    lowest
+    ((1, sizeRefused size) ∷ (3, budgetRefused pipeLimit (k .cycles) budget) ∷ (4, logRefused logs budget) ∷ (5, recordRefused k) ∷ [])
+
+pub record PipeAnswer : Type 0 where
+  pub number : ℕ
+  pub pipeline : Pipeline
+  pub memory : Memory
+  pub addresses : List ℕ
+  pub cycles : List ℕ
+
+abbrev pub pipeAnswer : ℕ → Pipeline → Memory → List ℕ → List ℕ → PipeAnswer
+pipeAnswer n k m a y = record { number = n; pipeline = k; memory = m; addresses = a; cycles = y }
+
+unfoldable pub pipeDone : Piped → List ℕ → List ℕ → PipeAnswer
+pipeDone p a y = pipeAnswer 0 (p .pipeline) (p .memory) (laid (p .addressLog) a) (laid (p .cycleLog) y)
+
+unfoldable pub pipeBy : Settings → List ℕ → Pipeline → Memory → ℕ → List ℕ → List ℕ → PipeAnswer
+pipeBy g logs k m budget a y =
+    let n = pipeRefusal k (length m) budget logs in
+    cond (eqb n 0) (pipeDone (clocks g (pipedOf k m) budget) a y) (pipeAnswer n k m a y)
+
+unfoldable pub pipeRun : Settings → Pipeline → Memory → ℕ → List ℕ → List ℕ → PipeAnswer
+pipeRun g k m budget a y = pipeBy g (length a ∷ length y ∷ []) k m budget a y
+
+-- a run without logs, and a clock, which is one of 1
+unfoldable pub pipeRunUnlogged : Settings → Pipeline → Memory → ℕ → PipeAnswer
+pipeRunUnlogged g k m budget = pipeBy g [] k m budget [] []
+
+unfoldable pub pipeClock : Settings → Pipeline → Memory → PipeAnswer
+pipeClock g k m = pipeRunUnlogged g k m 1

@@ -1,0 +1,67 @@
+// The pipelined engine's limit and its types. What they mean, document 01's five-stage rules, is in specs/.
+use machine::Accessed;
+use machine::Codes;
+use machine::Decoded;
+use machine::Executed;
+use machine::Instruction;
+use machine::REGISTERS;
+use machine::Status;
+
+// The most cycles that are not refused.
+pub const PIPE_LIMIT: u64 = 262145;
+
+// What is kept of the last instruction retired with AOK, for its follower's charge.
+pub struct Retired {
+    pub instruction: Instruction,
+    pub holds: bool,
+}
+
+// Each stage holds an instruction, or a bubble.
+pub enum StageD {
+    BubbleD,
+    InD(Instruction),
+}
+
+pub enum StageE {
+    BubbleE,
+    InE(Decoded),
+}
+
+pub enum StageM {
+    BubbleM,
+    InM(Executed),
+}
+
+pub enum StageW {
+    BubbleW,
+    InW(Accessed),
+}
+
+pub enum Kept {
+    NoneKept,
+    LastKept(Retired),
+}
+
+// The cycles charged so far, by kind.
+pub struct Kinds {
+    pub loaduse: u64,
+    pub mispredict: u64,
+    pub returned: u64,
+}
+
+// The pipelined engine's record: F is the predicted address alone.
+pub struct Pipeline {
+    pub predicted: u64,
+    pub d: StageD,
+    pub e: StageE,
+    pub m: StageM,
+    pub w: StageW,
+    pub registers: [u64; REGISTERS],
+    pub codes: Codes,
+    pub status: Status,
+    pub last: u64,
+    pub retired: u64,
+    pub cycles: u64,
+    pub kinds: Kinds,
+    pub kept: Kept,
+}
