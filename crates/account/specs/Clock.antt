@@ -12,7 +12,7 @@ use Rattle.machine.specs.Table.{is, ret}
 use Rattle.machine.specs.Fetch.{fetch}
 use Rattle.machine.specs.Stages.{sourceA, sourceB}
 use Rattle.machine.specs.Plain.{Plain, isStopped, fetched, decoded, executed, accessed, steps}
-use Rattle.clocked.specs.Prediction.{Settings}
+use Rattle.clocked.specs.Prediction.{Core}
 use Rattle.clocked.specs.Charges.{due}
 use Rattle.clocked.specs.Pipeline.{Piped, waits, mispredicts, fails, returns, retInE, retInM}
 use Rattle.clocked.specs.Pipeline.{fetchAddress, fetchedNow, source, sourceM, sourceW, pastBoth, advanced}
@@ -25,12 +25,12 @@ use Rattle.account.specs.Relation.{Known, Beyond, Guessed, AtF, BehindD,
 use Rattle.account.specs.Relation.{readyF, goesD, wrongD, retD, beyondD, stopD, emptyD, fullD, goesE, wrongE, retE, beyondE}
 use Rattle.account.specs.Relation.{stopE, emptyE, fullE, goesM, retM, beyondM, stopM, emptyM, fullM, beyondW, emptyW, fullW}
 
-data Fate (g : Settings) (s : Plain) (K n : ℕ) : Type 0 where
+data Fate (g : Core) (s : Plain) (K n : ℕ) : Type 0 where
   beyond : Beyond g s K n → Fate g s K n
   stop : isStopped (steps s n) ≡ true → Fate g s K n
   known : Known g s K n → Fate g s K n
 
-fate : (g : Settings) (s : Plain) (K n : ℕ) → Fate g s K n
+fate : (g : Core) (s : Plain) (K n : ℕ) → Fate g s K n
 fate g s K n = go (decLt n K) (isStopped (steps s n)) refl
   where
     go : Dec (n < K) → (b : Bool) → isStopped (steps s n) ≡ b → Fate g s K n
@@ -38,7 +38,7 @@ fate g s K n = go (decLt n K) (isStopped (steps s n)) refl
     go (yes h) false e = known (record { runs = e; below = h })
     go (no h) false e = beyond (record { runs = e; above = omega arith })
 
-module _ (g : Settings) (s : Plain) (K : ℕ) (p : Piped) (c : ℕ)
+module _ (g : Core) (s : Plain) (K : ℕ) (p : Piped) (c : ℕ)
     (sight : (j n : ℕ) → j ≤ n → n ≤ j + 3 → Known g s K n → fetch (steps s j .memory) (steps s n .machine .address) ≡ fetched (steps s n)) where
   -- F: what is known of the older stages when an instruction is fetched
   record Fetching (n : ℕ) : Type 0 where

@@ -17,7 +17,7 @@ use Rattle.machine.specs.Memory.{Memory, inside, store}
 use Rattle.machine.specs.Table.{RegisterByte, noByte, bothNamed, onlyB, onlyA, rowOf, table, is, cmov, jump, operation}
 use Rattle.machine.specs.Fetch.{fetch, parsed, stopping, half, ownBytes, sizeAt}
 use Rattle.machine.specs.Stages.{decode, execute, access, stores, accessAddress, storedWord, newMemory}
-use Rattle.clocked.specs.Prediction.{Settings}
+use Rattle.clocked.specs.Prediction.{Core}
 use Rattle.clocked.specs.Charges.{retiredOf}
 use Rattle.clocked.specs.Pipeline.{Piped, pipeStart, afterE, afterM, memoryAfter, mispredicts, waits, returns, fails, fetchedNow}
 use Rattle.clocked.specs.Pipeline.{fetchAddress, nextD, decodedD, nextE, nextM, keptAfter, advanced, stoppedIn, clock, clocks}
@@ -144,7 +144,7 @@ record Fits (p : Piped) : Type 0 where
   inW′ : refusedInW (p .pipeline .w) ≡ false
   kept : refusedKept (p .pipeline .kept) ≡ false
 
-module _ (g : Settings) (p : Piped) (h : Fits p) where
+module _ (g : Core) (p : Piped) (h : Fits p) where
   fits-advanced : Fits (advanced g p)
   unfolding advanced nextD nextE nextM fetchedNow refusedInD refusedInE refusedInM
   fits-advanced =
@@ -181,7 +181,7 @@ counts-fit p h =
       le-ltb (p .pipeline .cycles) (p .pipeline .kinds .returned) (omega arith),
     )
 
-module _ (g : Settings) (t : Start) (h : Bytes (t .memory)) where
+module _ (g : Core) (t : Start) (h : Bytes (t .memory)) where
   fits-clocks : (c : ℕ) → Fits (clocks g (pipedFrom t) c)
   unfolding clocks pipedFrom pipeStart refusedInD refusedInE refusedInM refusedInW refusedKept
   fits-clocks zero = record { bytes = h; inD′ = refl; inE′ = refl; inM′ = refl; inW′ = refl; kept = refl }

@@ -16,7 +16,7 @@ use Rattle.machine.specs.Fetch.{fetch, parsed, checked, stopping}
 use Rattle.machine.specs.Stages.{register, decode, execute, access, outcome, condition, loads, stores, loading, storing, accessAddress}
 use Rattle.machine.specs.Stages.{accessStatus, newCodes, newMemory, newRegisters, loadedTarget, sourceA, sourceB, turned, straight, nextAddress}
 use Rattle.machine.specs.Plain.{Plain, isStopped, fetched, decoded, executed, accessed, performed, stoppedBy, step, steps}
-use Rattle.clocked.specs.Prediction.{Settings, Rule, taken, guess, predictedNext, mispredicted, meets, loadUse}
+use Rattle.clocked.specs.Prediction.{Core, guess, predictedNext, mispredicted, meets, loadUse}
 use Rattle.clocked.specs.Charges.{reasonBehind, retiredOf, amount, reasonOf, charge, charges, due}
 use Rattle.clocked.specs.Pipeline.{pastResult, pastBoth}
 use Rattle.clock_laws.specs.Registers.{meets-none, length-written}
@@ -123,14 +123,14 @@ kind i = go (is jump i) (is ret i) refl refl
     go false true p q = let k = eqb-true (i .code) 9 q in a-return p q (rw k)
     go false false p q = another p q
 
-loadUse-none : (g : Settings) (i j : Instruction) → loadedTarget i ≡ 15 → loadUse g i j ≡ false
+loadUse-none : (g : Core) (i j : Instruction) → loadedTarget i ≡ 15 → loadUse g i j ≡ false
 unfolding loadUse
 loadUse-none g i j e = cc (meets-none (sourceA j), meets-none (sourceB j))
 
 -- THE RULE: the unconditional jump is guessed to go to C
-guess-always : (r : Rule) (i : Instruction) → eqb (i .function) 0 ≡ true → guess r i ≡ true
+guess-always : (g : Core) (i : Instruction) → eqb (i .function) 0 ≡ true → guess g i ≡ true
 unfolding guess
-guess-always taken i h = refl
+guess-always g i h = rw h
 
 beq-same : (a b : Bool) → not (Bool·beq a b) ≡ false → a ≡ b
 beq-same true true h = refl
@@ -139,7 +139,7 @@ beq-same false true h = cc
 beq-same false false h = refl
 
 -- the instruction performed at s is a jump that is guessed wrongly
-unfoldable pub wrongAt : Settings → Plain → Bool
+unfoldable pub wrongAt : Core → Plain → Bool
 wrongAt g s = mispredicted g (executed s .instruction) (executed s .holds)
 
 -- THE PLAIN STEP, where it is not stopped
@@ -210,7 +210,7 @@ module _ (s : Plain) (r : isStopped s ≡ false) where
     pub address-returned : is ret (fetched s) ≡ true → step s .machine .address ≡ accessed s .word
     address-returned t = cc address-next
 
-    module _ (g : Settings) where
+    module _ (g : Core) where
       pub address-predicted : wrongAt g s ≡ false → is ret (fetched s) ≡ false → step s .machine .address ≡ predictedNext g (fetched s)
       unfolding wrongAt mispredicted predictedNext
       address-predicted m t = go (is jump (fetched s)) refl
@@ -218,8 +218,8 @@ module _ (s : Plain) (r : isStopped s ≡ false) where
           go : (b : Bool) → is jump (fetched s) ≡ b → step s .machine .address ≡ predictedNext g (fetched s)
           go false e = cc (address-next, in-executed s)
           go true e =
-              let k : not (Bool·beq (executed s .holds) (guess (g .rule) (fetched s))) ≡ false = cc (in-executed s) in
-              cc (address-next, in-executed s, beq-same (executed s .holds) (guess (g .rule) (fetched s)) k)
+              let k : not (Bool·beq (executed s .holds) (guess g (fetched s))) ≡ false = cc (in-executed s) in
+              cc (address-next, in-executed s, beq-same (executed s .holds) (guess g (fetched s)) k)
 
       pub address-mended : wrongAt g s ≡ true → step s .machine .address ≡ turned (executed s .instruction) (executed s .holds)
       unfolding wrongAt mispredicted
@@ -262,7 +262,7 @@ past-unloaded s q v h = cc
 
 -- CHARGES
 -- behind an instruction as it retired: a jump guessed wrongly is charged 2, for it has a condition; a return 3; behind any other one waits for a load
-module _ (g : Settings) (k : Retired) where
+module _ (g : Core) (k : Retired) where
   pub wrong-stays : mispredicted g (k .instruction) (k .holds) ≡ true → is ret (k .instruction) ≡ false
   unfolding mispredicted
   wrong-stays m = go (kind (k .instruction))
@@ -301,7 +301,7 @@ module _ (g : Settings) (k : Retired) where
         go false e = cc
 
 -- an unconditional jump is never guessed wrongly
-module _ (g : Settings) (x : Decoded) (c : Codes) where
+module _ (g : Core) (x : Decoded) (c : Codes) where
   always-holds : is jump (x .instruction) ≡ true → eqb (x .instruction .function) 0 ≡ true → execute x c .holds ≡ true
   unfolding execute outcome condition
   always-holds f e =
@@ -315,10 +315,10 @@ module _ (g : Settings) (x : Decoded) (c : Codes) where
       go : (b j : Bool) → eqb (x .instruction .function) 0 ≡ b → is jump (x .instruction) ≡ j → eqb (x .instruction .function) 0 ≡ false
       go false j e f = e
       go true false e f = absurd (true≢false (sym m ∙ cc))
-      go true true e f = absurd (true≢false (sym m ∙ cc (always-holds f e, guess-always (g .rule) (x .instruction) e)))
+      go true true e f = absurd (true≢false (sym m ∙ cc (always-holds f e, guess-always g (x .instruction) e)))
 
 -- the same of the plain history: the instruction after n others is charged by its predecessor
-module _ (g : Settings) (s : Plain) (n : ℕ) where
+module _ (g : Core) (s : Plain) (n : ℕ) where
   pub due-next : due g s (suc (suc n)) ≡ due g s (suc n) + 1 + charge g s (suc (suc n))
   unfolding due charges
   due-next = omega arith

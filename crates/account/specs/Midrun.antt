@@ -6,7 +6,7 @@ use mathlib.Core.Path.{_≡_}
 use native.Mathlib.Omega.{arith}
 use lib.ListN.{length}
 use Rattle.machine.specs.Plain.{Plain, isStopped, steps}
-use Rattle.clocked.specs.Prediction.{Settings}
+use Rattle.clocked.specs.Prediction.{Core}
 use Rattle.clocked.specs.Charges.{due}
 use Rattle.clocked.specs.Pipeline.{Piped, clocks}
 use Rattle.clocked.specs.Premise.{Untouched}
@@ -17,13 +17,13 @@ use Rattle.account.specs.Timing.{Older, older-later, older-next, exactly
 use Rattle.account.specs.Theorem.{After, Now, going, ended, after-clocks}
 
 -- after c clocks: the stores of the first a instructions are in memory, and the codes are those of the first b
-pub record Landed (g : Settings) (s : Plain) (p : Piped) (c a b : ℕ) : Type 0 where
+pub record Landed (g : Core) (s : Plain) (p : Piped) (c a b : ℕ) : Type 0 where
   pub stores : DueBy g s (c + 1) a
   pub memory : p .memory ≡ steps s a .memory
   pub sets : DueBy g s (c + 2) b
   pub codes : p .pipeline .codes ≡ steps s b .machine .codes
 
-module _ (g : Settings) (s : Plain) where
+module _ (g : Core) (s : Plain) where
   -- before the bound nothing beyond the premise is near
   module _ (k : ℕ) (p : Piped) (c : ℕ) (q : c + 2 < due g s (suc k)) where
     near : {d n : ℕ} → d ≤ c + 2 → Older g s d n → Beyond g s (suc k) n → ⊥
@@ -79,14 +79,14 @@ module _ (g : Settings) (s : Plain) where
         go (ended h _ _ kc km _) = (n, n, land-stop n (older-later g s (i .older) (c + 1) (omega arith)) h kc km)
 
 -- where cycle c + 2 comes before the one in which the last instruction within the premise is due
-pub in-mid-run : (g : Settings) (t : Start) → length (t .registers) ≡ 15 → (k : ℕ) → Untouched (plainFrom t) (suc k)
+pub in-mid-run : (g : Core) (t : Start) → length (t .registers) ≡ 15 → (k : ℕ) → Untouched (plainFrom t) (suc k)
     → (c : ℕ) → c + 2 < due g (plainFrom t) (suc k) → (a b : ℕ) × Landed g (plainFrom t) (clocks g (pipedFrom t) c) c a b
 in-mid-run g t l k u c q =
     let x = after-clocks g t k l u c (omega arith) in
     landed g (plainFrom t) k (clocks g (pipedFrom t) c) c q (x .0) (x .1)
 
 -- and where the premise holds throughout, after every clock
-pub always-in-mid-run : (g : Settings) (t : Start) → length (t .registers) ≡ 15 → ((K : ℕ) → Untouched (plainFrom t) K)
+pub always-in-mid-run : (g : Core) (t : Start) → length (t .registers) ≡ 15 → ((K : ℕ) → Untouched (plainFrom t) K)
     → (c : ℕ) → (a b : ℕ) × Landed g (plainFrom t) (clocks g (pipedFrom t) c) c a b
 unfolding due
 always-in-mid-run g t l u c = in-mid-run g t l c (u (suc c)) c (omega arith)

@@ -9,7 +9,7 @@ use Rattle.account.specs.Names.{StageD, bubbleD, inD, bubbleE, inE, bubb
 use Rattle.machine.specs.Types.{isBad}
 use Rattle.machine.specs.Table.{is, ret}
 use Rattle.machine.specs.Stages.{decode, execute, access}
-use Rattle.clocked.specs.Prediction.{Settings, mispredicted}
+use Rattle.clocked.specs.Prediction.{Core, mispredicted}
 use Rattle.clocked.specs.Charges.{noKinds, amount, reasonBehind, reasonFrom, retiredOf}
 use Rattle.clocked.specs.Pipeline.{Piped, pipeStart, waits, mispredicts, fails, retInE, retInM, fetchedNow}
 use Rattle.clocked.specs.Pipeline.{source, retiredAfter, kindsAfter, keptAfter, advanced, stoppedIn, clock, clocks}
@@ -27,15 +27,15 @@ abbrev retiring : Executed → Retired
 retiring x = record { instruction = x .instruction; holds = x .holds }
 
 -- the cycle in which j is due behind the instruction k, which is due in cycle b
-behind : Settings → Kept → ℕ → Instruction → ℕ
+behind : Core → Kept → ℕ → Instruction → ℕ
 behind g k b j = b + 1 + amount (reasonFrom g k j)
 
-behind-by : (g : Settings) (k : Retired) (b : ℕ) (j : Instruction) (n : ℕ) → amount (reasonBehind g k j) ≡ n → behind g (lastKept k) b j ≡ b + 1 + n
+behind-by : (g : Core) (k : Retired) (b : ℕ) (j : Instruction) (n : ℕ) → amount (reasonBehind g k j) ≡ n → behind g (lastKept k) b j ≡ b + 1 + n
 unfolding behind reasonFrom
 behind-by g k b j n h = omega arith
 
 -- The levels, each behind an instruction k that is due in cycle b. Nothing is claimed behind an instruction that fails.
-module _ (g : Settings) (p : Piped) (c : ℕ) where
+module _ (g : Core) (p : Piped) (c : ℕ) where
   data OwnD (k : Kept) (b : ℕ) : Type 0 where
     emptyD : p .pipeline .d ≡ bubbleD → ((j : Instruction) → behind g k b j ≡ c + 5) → OwnD k b
     fullD : (i : Instruction) → p .pipeline .d ≡ inD i → behind g k b i ≡ c + 4 + bit (waits g p) → OwnD k b
@@ -64,7 +64,7 @@ module _ (g : Settings) (p : Piped) (c : ℕ) where
         → (isBad (w .status) ≡ false → OwnM (lastKept (retiredOf w)) (behind g k b (w .instruction))) → OwnW k b
 
 -- ONE CLOCK
-module _ (g : Settings) (p : Piped) (c : ℕ) where
+module _ (g : Core) (p : Piped) (c : ℕ) where
   -- what is known of E and M when an instruction may stand in D
   record Decoding : Type 0 where
     right : mispredicts g p ≡ false
@@ -178,17 +178,17 @@ unfolding accounted
 within p e = omega arith
 
 -- while it runs, the levels behind the last retired; at a stop, that one was on time
-data Own (g : Settings) (p : Piped) : Type 0 where
+data Own (g : Core) (p : Piped) : Type 0 where
   running : isBad (p .pipeline .status) ≡ false → p .pipeline .retired + total (p .pipeline .kinds) ≤ p .pipeline .cycles
       → (c : ℕ) (k : Kept) (b : ℕ) → p .pipeline .cycles ≡ c → p .pipeline .kept ≡ k → accounted p ≡ b → OwnW g p c k b → Own g p
   stopped : isBad (p .pipeline .status) ≡ true → p .pipeline .cycles ≡ accounted p → Own g p
 
 -- what one clock makes of it: if an instruction retires in it, its cycle is the one accounted
-record Next (g : Settings) (p p′ : Piped) : Type 0 where
+record Next (g : Core) (p p′ : Piped) : Type 0 where
   own : Own g p′
   on-account : p′ .pipeline .retired ≡ p .pipeline .retired + 1 → p′ .pipeline .cycles ≡ accounted p′
 
-module _ (g : Settings) (p : Piped) (c : ℕ) (y : p .pipeline .cycles ≡ c) where
+module _ (g : Core) (p : Piped) (c : ℕ) (y : p .pipeline .cycles ≡ c) where
   -- a retirement counts and charges what its instruction was due by
   books-account : (p′ : Piped) (w : Accessed) → Books g p p′ w → behind g (p .pipeline .kept) (accounted p) (w .instruction) ≡ c + 1
       → (accounted p′ ≡ behind g (p .pipeline .kept) (accounted p) (w .instruction)) × (p′ .pipeline .cycles ≡ accounted p′)
@@ -235,7 +235,7 @@ module _ (g : Settings) (p : Piped) (c : ℕ) (y : p .pipeline .cycles ≡ c) wh
       let e = books-account (stoppedIn g p w) w (books-stops g p w) t in
       record { own = stopped s (e .1); on-account = λ _. e .1 }
 
-own-next : (g : Settings) (p : Piped) → Own g p → Next g p (clock g p)
+own-next : (g : Core) (p : Piped) → Own g p → Next g p (clock g p)
 own-next g p (stopped h e) = subst (λ (z : Piped). Next g p z) (sym (clock-still g p h)) (record { own = stopped h e; on-account = λ z. absurd (omega arith) })
 own-next g p (running h l c k b y v e o) = go (subst (λ (z : Kept). OwnW g p c z (accounted p)) (sym v) (subst (λ (z : ℕ). OwnW g p c k z) (sym e) o))
   where
@@ -248,7 +248,7 @@ own-next g p (running h l c k b y v e o) = go (subst (λ (z : Kept). OwnW g p c 
         by false s = subst (λ (z : Piped). Next g p z) (sym (clock-retires g p h w x s)) (next-retires g p c y w x t (a s))
 
 -- FROM A FRESH START, after any number of clocks, whatever the memory holds
-module _ (g : Settings) (t : Start) where
+module _ (g : Core) (t : Start) where
   own-start : Own g (pipedFrom t)
   unfolding pipedFrom pipeStart accounted total noKinds isBad behind reasonFrom amount
   own-start = running refl (omega arith) 0 noneKept 4 refl refl refl (emptyW refl (emptyM refl (emptyE refl (emptyD refl (λ j. refl)))))

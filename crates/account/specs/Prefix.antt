@@ -6,7 +6,7 @@ use mathlib.Core.Path.{_≡_, refl, ap, sym, _∙_, subst}
 use native.Mathlib.Omega.{arith}
 use lib.ListN.{length}
 use Rattle.machine.specs.Plain.{isStopped, steps}
-use Rattle.clocked.specs.Prediction.{Settings}
+use Rattle.clocked.specs.Prediction.{Core}
 use Rattle.clocked.specs.Charges.{due, dueCycles}
 use Rattle.clocked.specs.Pipeline.{Piped, advanced, stoppedIn, clock, clocks}
 use Rattle.clocked.specs.Premise.{Untouched}
@@ -33,13 +33,13 @@ record Longer (p q : Piped) : Type 0 where
 same-logs : (p : Piped) → Longer p p
 same-logs p = record { addresses = begins-all refl; cycles = begins-all refl }
 
-longer-clock : (g : Settings) (p : Piped) → Longer p (clock g p)
+longer-clock : (g : Core) (p : Piped) → Longer p (clock g p)
 unfolding advanced stoppedIn
 longer-clock g p =
     clock-any g p (Longer p) (same-logs p) (record { addresses = record { rest = _; whole = refl }; cycles = record { rest = _; whole = refl } })
     (λ w. record { addresses = record { rest = _; whole = refl }; cycles = record { rest = _; whole = refl } })
 
-longer : (g : Settings) (p : Piped) (c d : ℕ) → Longer (clocks g p c) (clocks g p (d + c))
+longer : (g : Core) (p : Piped) (c d : ℕ) → Longer (clocks g p c) (clocks g p (d + c))
 unfolding clocks
 longer g p c zero =
     let e : 0 + c ≡ c = omega arith in
@@ -51,7 +51,7 @@ longer g p c (suc d) =
     rw e (record { addresses = begins-further (a .addresses) (b .addresses); cycles = begins-further (a .cycles) (b .cycles) })
 
 -- instruction k + 1 is performed, within the premise, and due by clock c: whatever c is, and whatever comes after
-pub logs-begin : (g : Settings) (t : Start) → length (t .registers) ≡ 15 → (k : ℕ) → Untouched (plainFrom t) (suc k) → isStopped (steps (plainFrom t) k) ≡ false
+pub logs-begin : (g : Core) (t : Start) → length (t .registers) ≡ 15 → (k : ℕ) → Untouched (plainFrom t) (suc k) → isStopped (steps (plainFrom t) k) ≡ false
     → (c : ℕ) → due g (plainFrom t) (suc k) ≤ c
     → Begins (clocks g (pipedFrom t) c .addressLog) (steps (plainFrom t) (suc k) .log) × Begins (clocks g (pipedFrom t) c .cycleLog)
     (dueCycles g (plainFrom t) (suc k))

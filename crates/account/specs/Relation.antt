@@ -8,13 +8,13 @@ use mathlib.Core.Path.{_≡_}
 use Rattle.account.specs.Names.{bubbleD, inD, bubbleE, inE, bubbleM, inM, bubbleW, inW}
 use Rattle.machine.specs.Table.{is, ret}
 use Rattle.machine.specs.Plain.{Plain, isStopped, fetched, decoded, executed, accessed, steps}
-use Rattle.clocked.specs.Prediction.{Settings}
+use Rattle.clocked.specs.Prediction.{Core}
 use Rattle.clocked.specs.Charges.{due}
 use Rattle.clocked.specs.Pipeline.{Piped, waits, fetchAddress}
 use Rattle.account.specs.Laws.{bit, wrongAt}
 use Rattle.account.specs.Signals.{waitsFor}
 
-module _ (g : Settings) (s : Plain) (K : ℕ) where
+module _ (g : Core) (s : Plain) (K : ℕ) where
   -- instruction n + 1 is performed, and within the premise
   pub record Known (n : ℕ) : Type 0 where
     pub runs : isStopped (steps s n) ≡ false

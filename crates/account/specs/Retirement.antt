@@ -5,11 +5,11 @@ use mathlib.Core.List.{[], _∷_, _++_}
 use mathlib.Core.Path.{_≡_, refl}
 use Rattle.account.specs.Names.{Accessed, StageW, bubbleW, inW}
 use Rattle.machine.specs.Types.{isBad}
-use Rattle.clocked.specs.Prediction.{Settings}
+use Rattle.clocked.specs.Prediction.{Core}
 use Rattle.clocked.specs.Charges.{counted, reasonFrom}
 use Rattle.clocked.specs.Pipeline.{Piped, lastAfter, retiredAfter, kindsAfter, logged, advanced, stoppedIn, clockBy, clock}
 
-pub record Books (g : Settings) (p p′ : Piped) (w : Accessed) : Type 0 where
+pub record Books (g : Core) (p p′ : Piped) (w : Accessed) : Type 0 where
   pub retired : p′ .pipeline .retired ≡ p .pipeline .retired + 1
   pub counts : p′ .pipeline .cycles ≡ p .pipeline .cycles + 1
   pub kinds : p′ .pipeline .kinds ≡ counted (p .pipeline .kinds) (reasonFrom g (p .pipeline .kept) (w .instruction))
@@ -17,7 +17,7 @@ pub record Books (g : Settings) (p p′ : Piped) (w : Accessed) : Type 0 where
   pub addresses : p′ .addressLog ≡ p .addressLog ++ w .instruction .address ∷ []
   pub cycles : p′ .cycleLog ≡ p .cycleLog ++ (p .pipeline .cycles + 1) ∷ []
 
-module _ (g : Settings) (p : Piped) where
+module _ (g : Core) (p : Piped) where
   module _ (h : isBad (p .pipeline .status) ≡ false) where
     pub clock-bubble : p .pipeline .w ≡ bubbleW → clock g p ≡ advanced g p
     unfolding clock clockBy

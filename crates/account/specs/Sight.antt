@@ -17,7 +17,7 @@ use Rattle.machine.specs.Fetch.{fetch, parsed, ownBytes, sizeAt}
 use Rattle.machine.specs.Stages.{decode, execute, stores, accessAddress, storedWord, newMemory}
 use Rattle.published.specs.Lengths.{length-rule, parts}
 use Rattle.machine.specs.Plain.{Plain, isStopped, fetched, decoded, executed, step, steps}
-use Rattle.clocked.specs.Prediction.{Settings}
+use Rattle.clocked.specs.Prediction.{Core}
 use Rattle.clocked.specs.Premise.{Untouched, writesByte, hasByte}
 use Rattle.account.specs.Laws.{step-memory, stopped-before}
 use Rattle.account.specs.Relation.{Known}
@@ -121,7 +121,7 @@ runs-before s zero j n e h =
     rw q h
 runs-before s (suc d) j n e h = stopped-before (steps s j) (runs-before s d (suc j) n (omega arith) h)
 
-module _ (g : Settings) (s : Plain) (K : ℕ) (u : Untouched s K) where
+module _ (g : Core) (s : Plain) (K : ℕ) (u : Untouched s K) where
   back : (d j n : ℕ) → d + j ≡ n → d ≤ 3 → Known g s K n → Same (steps s j .memory) (steps s n .memory) (steps s n .machine .address)
   unfolding steps hasByte
   back zero j n e b l =

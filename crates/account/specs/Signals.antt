@@ -9,7 +9,7 @@ use Rattle.machine.specs.Memory.{value}
 use Rattle.machine.specs.Table.{is, ret}
 use Rattle.machine.specs.Stages.{decode, execute, access, newCodes, newMemory, newRegisters, loadedTarget, sourceA, sourceB, turned}
 use Rattle.machine.specs.Plain.{Plain, fetched, decoded, executed, accessed}
-use Rattle.clocked.specs.Prediction.{Settings, predictedNext, mispredicted, meets, loadUse}
+use Rattle.clocked.specs.Prediction.{Core, predictedNext, mispredicted, meets, loadUse}
 use Rattle.clocked.specs.Pipeline.{Piped, afterE, afterM, codesAfter, memoryAfter, registersAfter, pastResult, pastBoth, sourceW, sourceM}
 use Rattle.clocked.specs.Pipeline.{source, waitsBehind, waits, wrong, mispredicts, retInD, retInE, retInM, returns, badInW, fails}
 use Rattle.clocked.specs.Pipeline.{returnedTo, mended, fetchAddress, fetchedNow, nextF, nextD, decodedD, nextE, nextM, nextCodes, advanced}
@@ -17,7 +17,7 @@ use Rattle.account.specs.Laws.{or-true, wrongAt}
 use Rattle.laws.specs.Tests.{neither}
 
 -- the instruction in D is one for which j has to wait
-unfoldable pub waitsFor : Settings → StageD → Instruction → Bool
+unfoldable pub waitsFor : Core → StageD → Instruction → Bool
 waitsFor g bubbleD j = false
 waitsFor g (inD i) j = loadUse g i j
 
@@ -34,7 +34,7 @@ same : {A : Type 0} (b : Bool) (x : A) → cond b x x ≡ x
 same true x = refl
 same false x = refl
 
-module _ (g : Settings) (p : Piped) where
+module _ (g : Core) (p : Piped) where
   -- THE WORK OF D, E AND M
   pub e-of : (i : Instruction) → waits g p ≡ false → mispredicts g p ≡ false → p .pipeline .d ≡ inD i → advanced g p .pipeline .e ≡ inE (decode i (source p))
   unfolding advanced nextE decodedD
@@ -311,6 +311,6 @@ module _ (g : Settings) (p : Piped) where
       go (inM x) h = h
 
 -- after a clock with neither, the next fetch is at the predicted address
-pub at-next : (g : Settings) (p : Piped) → mispredicts g p ≡ false → retInM (p .pipeline .m) ≡ false
+pub at-next : (g : Core) (p : Piped) → mispredicts g p ≡ false → retInM (p .pipeline .m) ≡ false
     → fetchAddress g (advanced g p) ≡ advanced g p .pipeline .predicted
 at-next g p m r = at-predicted g (advanced g p) (wrong-next g p m) (ret-next g p r)

@@ -3,17 +3,18 @@ use Prim.Native.Nat.{ℕ, zero, suc, _≤_, _<_}
 use mathlib.Core.Bool.{true, false}
 use mathlib.Core.Path.{_≡_}
 use lib.ListN.{length}
-use Rattle.account.specs.Names.{Codes, Kept, noneKept, lastKept}
+use Rattle.account.specs.Names.{Codes, Settings, Kept, noneKept, lastKept}
 use Rattle.machine.specs.Types.{isBad}
 use Rattle.machine.specs.Memory.{Memory, Registers}
 use Rattle.machine.specs.Plain.{Plain, plainOf, plainStart, isStopped, accessed, steps}
-use Rattle.clocked.specs.Prediction.{Settings}
+use Rattle.clocked.specs.Prediction.{Core, coreOf}
 use Rattle.clocked.specs.Charges.{retiredOf, kindsOf, due, dueCycles}
 use Rattle.clocked.specs.Pipeline.{Piped, pipedOf, pipeStart, clocks}
 use Rattle.clocked.specs.Premise.{Untouched}
 
--- what both engines are started from
+-- what both engines are started from, and the pipeline's settings
 pub record Start : Type 0 where
+  pub settings : Settings
   pub registers : Registers
   pub codes : Codes
   pub address : ℕ
@@ -23,11 +24,15 @@ unfoldable pub plainFrom : Start → Plain
 plainFrom t = plainOf (plainStart (t .registers) (t .codes) (t .address)) (t .memory)
 
 unfoldable pub pipedFrom : Start → Piped
-pipedFrom t = pipedOf (pipeStart (t .registers) (t .codes) (t .address)) (t .memory)
+pipedFrom t = pipedOf (pipeStart (t .settings) (t .registers) (t .codes) (t .address)) (t .memory)
+
+-- the core that the settings choose
+abbrev pub chosen : Start → Core
+chosen t = coreOf (t .settings)
 
 -- Of the plain history from s exactly n instructions are due by cycle c. Instruction k + 1 is performed on steps s k, and due in cycle
 -- due g s (k + 1), "k + 4 plus the charges of instructions 1 to k" with k counted from 1.
-pub record DueBy (g : Settings) (s : Plain) (c n : ℕ) : Type 0 where
+pub record DueBy (g : Core) (s : Plain) (c n : ℕ) : Type 0 where
   -- the plain engine performs the n: none comes after a stop
   pub performed : (k : ℕ) → k < n → isStopped (steps s k) ≡ false
   pub arrived : (k : ℕ) → k < n → due g s (suc k) ≤ c
@@ -40,7 +45,7 @@ keptOf s zero = noneKept
 keptOf s (suc n) = lastKept (retiredOf (accessed (steps s n)))
 
 -- What holds of the pipeline p after c clocks, when n instructions have retired, beside the plain history from s.
-pub record Agrees (g : Settings) (s : Plain) (p : Piped) (c n : ℕ) : Type 0 where
+pub record Agrees (g : Core) (s : Plain) (p : Piped) (c n : ℕ) : Type 0 where
   -- exactly the instructions that are due have retired
   pub retired : p .pipeline .retired ≡ n
   pub exactly : DueBy g s c n
@@ -62,8 +67,9 @@ pub record Agrees (g : Settings) (s : Plain) (p : Piped) (c n : ℕ) : Type 0 wh
       → (p .memory ≡ steps s n .memory) × (p .pipeline .codes ≡ steps s n .machine .codes) × (p .pipeline .cycles ≡ due g s n)
 
 -- "Start both alike." From every start, where among the first k + 1 instructions "no store writes a byte of any of the next three
--- instructions the plain engine performs", the pipeline agrees after every clock up to the cycle in which instruction k + 1 is due.
+-- instructions the plain engine performs", the pipeline agrees after every clock up to the cycle in which instruction k + 1 is due. It
+-- holds of every core, whatever it guesses of conditional jumps, and so of the one that the start's settings choose.
 abbrev pub Demand3 : Type 0
 Demand3 =
-    (g : Settings) (t : Start) → length (t .registers) ≡ 15 → (k : ℕ) → Untouched (plainFrom t) (suc k)
+    (g : Core) (t : Start) → length (t .registers) ≡ 15 → (k : ℕ) → Untouched (plainFrom t) (suc k)
     → (c : ℕ) → c ≤ due g (plainFrom t) (suc k) → (n : ℕ) × Agrees g (plainFrom t) (clocks g (pipedFrom t) c) c n

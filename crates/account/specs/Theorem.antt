@@ -9,7 +9,7 @@ use lib.ListN.{length}
 use Rattle.account.specs.Names.{aok, bubbleW, inW}
 use Rattle.machine.specs.Types.{isBad}
 use Rattle.machine.specs.Plain.{Plain, plainStart, isStopped, fetched, accessed, stoppedBy, steps}
-use Rattle.clocked.specs.Prediction.{Settings}
+use Rattle.clocked.specs.Prediction.{Core}
 use Rattle.clocked.specs.Charges.{reasonFrom, reasonOf, kindsOf, charge, charges, amount, due, dueCycles}
 use Rattle.clocked.specs.Pipeline.{Piped, pipeStart, waits, waitsBehind, mended, returnedTo, fetchAddress, lastAfter}
 use Rattle.clocked.specs.Pipeline.{retiredAfter, kindsAfter, keptAfter, logged, advanced, stoppedIn, clock, clocks}
@@ -26,7 +26,7 @@ use Rattle.laws.specs.Status.{sound}
 use Rattle.clock_laws.specs.Stops.{clock-still}
 use Rattle.account.specs.Retirement.{Books, clock-bubble, clock-retires, clock-stops, books-retires, books-stops}
 
-module _ (g : Settings) (s : Plain) (k : ℕ) where
+module _ (g : Core) (s : Plain) (k : ℕ) where
   reason-kept : (n : ℕ) → reasonFrom g (keptOf s n) (fetched (steps s n)) ≡ reasonOf g s (suc n)
   unfolding keptOf reasonFrom reasonOf
   reason-kept zero = refl
@@ -196,7 +196,7 @@ module _ (g : Settings) (s : Plain) (k : ℕ) where
               (record { counts = i .counts; older = older-later g s (i .older) (suc c) (omega arith); now = ended r st h kc km y }),
         )
 
-module _ (g : Settings) (t : Start) (k : ℕ) where
+module _ (g : Core) (t : Start) (k : ℕ) where
   start-after : After g (plainFrom t) k (pipedFrom t) 0 0
   unfolding plainFrom pipedFrom plainStart pipeStart steps isStopped isBad dueCycles kindsOf keptOf due charges charge reasonOf amount bit
       waits waitsBehind waitsFor fetchAddress mended returnedTo

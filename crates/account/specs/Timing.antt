@@ -7,7 +7,7 @@ use native.Mathlib.Omega.{arith}
 use native.Mathlib.Decide.{decLt}
 use Rattle.account.specs.Names.{Kinds}
 use Rattle.machine.specs.Plain.{Plain, isStopped, steps}
-use Rattle.clocked.specs.Prediction.{Settings}
+use Rattle.clocked.specs.Prediction.{Core}
 use Rattle.clocked.specs.Charges.{Reason, free, waited, wronglyGuessed, returned, amount, noKinds, counted, reasonOf, charge, charges, kindsOf, due}
 use Rattle.clocked.specs.Pipeline.{Piped}
 use Rattle.account.specs.Statement.{DueBy}
@@ -25,12 +25,12 @@ up-to {P} n f x i h = go (decLt i n)
         let e : i ≡ n = omega arith in
         rw e x
 
-pub due-grows : (g : Settings) (s : Plain) (n : ℕ) → due g s n < due g s (suc n)
+pub due-grows : (g : Core) (s : Plain) (n : ℕ) → due g s n < due g s (suc n)
 unfolding due charges
 due-grows g s n = omega arith
 
 -- by at least one cycle an instruction
-pub due-order : (g : Settings) (s : Plain) (k n : ℕ) → k ≤ n → due g s k + n ≤ due g s n + k
+pub due-order : (g : Core) (s : Plain) (k n : ℕ) → k ≤ n → due g s k + n ≤ due g s n + k
 due-order g s k zero h =
     let e : k ≡ 0 = omega arith in
     rw e (omega arith)
@@ -40,11 +40,11 @@ due-order g s k (suc n) h =
     (omega arith)
 
 -- the first n instructions are performed, and due by cycle c
-pub record Older (g : Settings) (s : Plain) (c n : ℕ) : Type 0 where
+pub record Older (g : Core) (s : Plain) (c n : ℕ) : Type 0 where
   pub performed : (i : ℕ) → i < n → isStopped (steps s i) ≡ false
   pub arrived : (i : ℕ) → i < n → due g s (suc i) ≤ c
 
-module _ (g : Settings) (s : Plain) {c n : ℕ} (o : Older g s c n) where
+module _ (g : Core) (s : Plain) {c n : ℕ} (o : Older g s c n) where
   pub older-later : (d : ℕ) → c ≤ d → Older g s d n
   older-later d h = record { performed = o .performed; arrived = λ i q. omega (arith, o .arrived i q) }
 
@@ -70,7 +70,7 @@ total-counted t wronglyGuessed = omega arith
 total-counted t returned = omega arith
 
 -- "The cycle counts kept by kind sum the charges"
-pub kinds-sum : (g : Settings) (s : Plain) (n : ℕ) → total (kindsOf g s n) ≡ charges g s n
+pub kinds-sum : (g : Core) (s : Plain) (n : ℕ) → total (kindsOf g s n) ≡ charges g s n
 unfolding kindsOf charges charge noKinds total
 kinds-sum g s zero = refl
 kinds-sum g s (suc n) = omega (arith, total-counted (kindsOf g s n) (reasonOf g s (suc n)), kinds-sum g s n)
@@ -83,13 +83,13 @@ amount-most wronglyGuessed = omega arith
 amount-most returned = omega arith
 
 -- "at most 4n + 1": instruction 1 has charge 0, any other at most 3
-pub due-most : (g : Settings) (s : Plain) (n : ℕ) → due g s (suc n) ≤ 4 * suc n + 1
+pub due-most : (g : Core) (s : Plain) (n : ℕ) → due g s (suc n) ≤ 4 * suc n + 1
 unfolding due charges charge reasonOf amount
 due-most g s zero = omega arith
 due-most g s (suc n) = omega (arith, due-most g s n, amount-most (reasonOf g s (suc (suc n))))
 
 -- THE RELATION: instruction n + 1 is as far from being due as its stage is from W, or beyond the premise
-module _ (g : Settings) (s : Plain) (K : ℕ) (p : Piped) (c : ℕ) where
+module _ (g : Core) (s : Plain) (K : ℕ) (p : Piped) (c : ℕ) where
   late-F : (n : ℕ) → isStopped (steps s n) ≡ false → AtF g s K p c n → (c + 4 < due g s (suc n)) ⊎ Beyond g s K n
   late-F n r (beyondF h) = inr h
   late-F n r (stopF h) = absurd (true≢false (sym h ∙ r))

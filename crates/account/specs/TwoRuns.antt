@@ -15,15 +15,15 @@ use Rattle.account.specs.Names.{Machine, Pipeline}
 use Rattle.machine.specs.Types.{isBad}
 use Rattle.machine.specs.Memory.{Memory}
 use Rattle.machine.specs.Plain.{Plain, plainOf, plainStart, isStopped, steps}
-use Rattle.clocked.specs.Prediction.{Settings}
+use Rattle.clocked.specs.Prediction.{Core, coreOf}
 use Rattle.clocked.specs.Charges.{kindsOf, due, dueCycles}
-use Rattle.clocked.specs.Pipeline.{pipedOf, clocks}
+use Rattle.clocked.specs.Pipeline.{pipedOf, pipeStart, clocks}
 use Rattle.clocked.specs.Premise.{Untouched}
 use Rattle.machine.specs.Runs.{laid, sizeRefused, budgetRefused, logRefused, plainLimit, plainAnswer, lowest}
 use Rattle.clocked.specs.PipeRuns.{recordRefused, pipeLimit, pipeAnswer}
 use Rattle.machine.specs.Runs.{plainRefusal, PlainAnswer, plainDone, plainBy, plainRun}
 use Rattle.clocked.specs.PipeRuns.{pipeRefusal, PipeAnswer, pipeDone, pipeBy, pipeRun, pipeRunUnlogged}
-use Rattle.account.specs.Statement.{Start, plainFrom, pipedFrom, DueBy, keptOf, Agrees}
+use Rattle.account.specs.Statement.{Start, chosen, plainFrom, pipedFrom, DueBy, keptOf, Agrees}
 use Rattle.account.specs.Laws.{step-logs}
 use Rattle.laws.specs.Tests.{neither}
 use Rattle.published.specs.Columns.{stays as step-still}
@@ -133,52 +133,52 @@ plain-ran k m budget log h =
     let f = logs-fit (sizeRefused (length m)) (budgetRefused plainLimit (k .count) budget) (ltb (length log) budget || false) 0 (r .1) in
     (r .0, ltb-false (length log) budget (neither (ltb (length log) budget) false f .0))
 
-pipe-ran : (g : Settings) (k : Pipeline) (m : Memory) (budget : ℕ) (a y : List ℕ) → pipeRun g k m budget a y .number ≡ 0
-    → (pipeRun g k m budget a y ≡ pipeDone (clocks g (pipedOf k m) budget) a y) × (budget ≤ length a) × (budget ≤ length y)
+pipe-ran : (k : Pipeline) (m : Memory) (budget : ℕ) (a y : List ℕ) → pipeRun k m budget a y .number ≡ 0
+    → (pipeRun k m budget a y ≡ pipeDone (clocks (coreOf (k .settings)) (pipedOf k m) budget) a y) × (budget ≤ length a) × (budget ≤ length y)
 unfolding pipeRun pipeBy pipeRefusal lowest logRefused
-pipe-ran g k m budget a y h =
+pipe-ran k m budget a y h =
     let n = pipeRefusal k (length m) budget (length a ∷ length y ∷ []) in
-    let r = ran (λ (x : PipeAnswer). x .number) n (pipeDone (clocks g (pipedOf k m) budget) a y) (pipeAnswer n k m a y) refl h in
+    let r = ran (λ (x : PipeAnswer). x .number) n (pipeDone (clocks (coreOf (k .settings)) (pipedOf k m) budget) a y) (pipeAnswer n k m a y) refl h in
     let b = ltb (length y) budget || false in
     let f = logs-fit (sizeRefused (length m)) (budgetRefused pipeLimit (k .cycles) budget) (ltb (length a) budget || b) (cond (recordRefused k) 5 0) (r .1) in
     let e = neither (ltb (length a) budget) b f in
     (r .0, ltb-false (length a) budget (e .0), ltb-false (length y) budget (neither (ltb (length y) budget) false (e .1) .0))
 
-pub unlogged-ran : (g : Settings) (k : Pipeline) (m : Memory) (budget : ℕ) → pipeRunUnlogged g k m budget .number ≡ 0
-    → (pipeRunUnlogged g k m budget ≡ pipeDone (clocks g (pipedOf k m) budget) [] []) × (pipeRefusal k (length m) budget [] ≡ 0)
+pub unlogged-ran : (k : Pipeline) (m : Memory) (budget : ℕ) → pipeRunUnlogged k m budget .number ≡ 0
+    → (pipeRunUnlogged k m budget ≡ pipeDone (clocks (coreOf (k .settings)) (pipedOf k m) budget) [] []) × (pipeRefusal k (length m) budget [] ≡ 0)
 unfolding pipeRunUnlogged pipeBy
-unlogged-ran g k m budget h =
+unlogged-ran k m budget h =
     let n = pipeRefusal k (length m) budget [] in
-    ran (λ (x : PipeAnswer). x .number) n (pipeDone (clocks g (pipedOf k m) budget) [] []) (pipeAnswer n k m [] []) refl h
+    ran (λ (x : PipeAnswer). x .number) n (pipeDone (clocks (coreOf (k .settings)) (pipedOf k m) budget) [] []) (pipeAnswer n k m [] []) refl h
 
 -- "the limit is 262,145, which covers any 65,536 instructions"
-pub limit-covers : (g : Settings) (s : Plain) → due g s plainLimit ≤ pipeLimit
+pub limit-covers : (g : Core) (s : Plain) → due g s plainLimit ≤ pipeLimit
 limit-covers g s = due-most g s 65535
 
 -- THE TWO ANSWERS
 abbrev pub plainAnswered : Start → ℕ → List ℕ → PlainAnswer
 plainAnswered t budget log = plainRun (plainFrom t .machine) (t .memory) budget log
 
-abbrev pub pipeAnswered : Settings → Start → ℕ → List ℕ → List ℕ → PipeAnswer
-pipeAnswered g t clocked addresses cycles = pipeRun g (pipedFrom t .pipeline) (t .memory) clocked addresses cycles
+abbrev pub pipeAnswered : Start → ℕ → List ℕ → List ℕ → PipeAnswer
+pipeAnswered t clocked addresses cycles = pipeRun (pipedFrom t .pipeline) (t .memory) clocked addresses cycles
 
 -- that of a run without logs
-abbrev pub pipeUnlogged : Settings → Start → ℕ → PipeAnswer
-pipeUnlogged g t clocked = pipeRunUnlogged g (pipedFrom t .pipeline) (t .memory) clocked
+abbrev pub pipeUnlogged : Start → ℕ → PipeAnswer
+pipeUnlogged t clocked = pipeRunUnlogged (pipedFrom t .pipeline) (t .memory) clocked
 
 -- HOW FAR THE PREMISE REACHES: to instruction k + 1, and no clock is past its due cycle; or, of a plain run that stopped, over the
 -- instructions that it performed, and then the pipeline may run on as long as it likes
-pub data Covered (g : Settings) (t : Start) (clocked : ℕ) (x : PlainAnswer) : Type 0 where
-  to-the-clock : (k : ℕ) → Untouched (plainFrom t) (suc k) → clocked ≤ due g (plainFrom t) (suc k) → Covered g t clocked x
-  to-the-stop : isBad (x .machine .status) ≡ true → Untouched (plainFrom t) (x .machine .count) → Covered g t clocked x
+pub data Covered (t : Start) (clocked : ℕ) (x : PlainAnswer) : Type 0 where
+  to-the-clock : (k : ℕ) → Untouched (plainFrom t) (suc k) → clocked ≤ due (chosen t) (plainFrom t) (suc k) → Covered t clocked x
+  to-the-stop : isBad (x .machine .status) ≡ true → Untouched (plainFrom t) (x .machine .count) → Covered t clocked x
 
 -- WHAT MAY BE COMPARED, of any two runs
-pub record EndsAgree (g : Settings) (t : Start) (budget clocked : ℕ) (x : PlainAnswer) (y : PipeAnswer) : Type 0 where
+pub record EndsAgree (t : Start) (budget clocked : ℕ) (x : PlainAnswer) (y : PipeAnswer) : Type 0 where
   -- the plain answer is the plain engine after as many instructions as it counts
   pub plain : (x .machine ≡ steps (plainFrom t) (x .machine .count) .machine) × (x .memory ≡ steps (plainFrom t) (x .machine .count) .memory)
   -- exactly the instructions that are due by the pipeline's last clock have retired
-  pub exactly : DueBy g (plainFrom t) clocked (y .pipeline .retired)
-  pub kinds : y .pipeline .kinds ≡ kindsOf g (plainFrom t) (y .pipeline .retired)
+  pub exactly : DueBy (chosen t) (plainFrom t) clocked (y .pipeline .retired)
+  pub kinds : y .pipeline .kinds ≡ kindsOf (chosen t) (plainFrom t) (y .pipeline .retired)
   -- registers, status and last address are the plain engine's after as many instructions
   pub registers : y .pipeline .registers ≡ steps (plainFrom t) (y .pipeline .retired) .machine .registers
   pub status : y .pipeline .status ≡ steps (plainFrom t) (y .pipeline .retired) .machine .status
@@ -187,17 +187,17 @@ pub record EndsAgree (g : Settings) (t : Start) (budget clocked : ℕ) (x : Plai
   pub running : isBad (y .pipeline .status) ≡ false → (y .pipeline .kept ≡ keptOf (plainFrom t) (y .pipeline .retired)) × (y .pipeline .cycles ≡ clocked)
   pub stopped : isBad (y .pipeline .status) ≡ true
       → (y .memory ≡ steps (plainFrom t) (y .pipeline .retired) .memory) × (y .pipeline .codes ≡ steps (plainFrom t) (y .pipeline .retired) .machine .codes)
-      × (y .pipeline .cycles ≡ due g (plainFrom t) (y .pipeline .retired))
+      × (y .pipeline .cycles ≡ due (chosen t) (plainFrom t) (y .pipeline .retired))
   -- as many have retired as the plain engine performed where either engine stopped and the other's budget reaches as far
-  pub plain-stopped : isBad (x .machine .status) ≡ true → due g (plainFrom t) (x .machine .count) ≤ clocked → x .machine .count ≡ y .pipeline .retired
+  pub plain-stopped : isBad (x .machine .status) ≡ true → due (chosen t) (plainFrom t) (x .machine .count) ≤ clocked → x .machine .count ≡ y .pipeline .retired
   pub pipe-stopped : isBad (y .pipeline .status) ≡ true → y .pipeline .retired ≤ budget → x .machine .count ≡ y .pipeline .retired
 
 -- and of two runs with logs
-pub record RunsAgree (g : Settings) (t : Start) (budget clocked : ℕ) (x : PlainAnswer) (y : PipeAnswer) : Type 0 where
-  pub ends : EndsAgree g t budget clocked x y
+pub record RunsAgree (t : Start) (budget clocked : ℕ) (x : PlainAnswer) (y : PipeAnswer) : Type 0 where
+  pub ends : EndsAgree t budget clocked x y
   -- line by line, as far as both logs reach: the addresses, and the cycles beside the account
   pub addresses : (i : ℕ) → i < x .machine .count → i < y .pipeline .retired → getD (x .log) i 0 ≡ getD (y .addresses) i 0
-  pub cycles : (i : ℕ) → i < y .pipeline .retired → getD (y .cycles) i 0 ≡ due g (plainFrom t) (suc i)
+  pub cycles : (i : ℕ) → i < y .pipeline .retired → getD (y .cycles) i 0 ≡ due (chosen t) (plainFrom t) (suc i)
 
 -- where as many have retired as were performed the two answers agree
 pub record Level (x : PlainAnswer) (y : PipeAnswer) : Type 0 where
@@ -206,14 +206,14 @@ pub record Level (x : PlainAnswer) (y : PipeAnswer) : Type 0 where
   pub last : y .pipeline .last ≡ x .machine .last
   pub stopped : isBad (y .pipeline .status) ≡ true → (y .memory ≡ x .memory) × (y .pipeline .codes ≡ x .machine .codes)
 
-pub level : (g : Settings) (t : Start) (budget clocked : ℕ) (x : PlainAnswer) (y : PipeAnswer) → EndsAgree g t budget clocked x y
+pub level : (t : Start) (budget clocked : ℕ) (x : PlainAnswer) (y : PipeAnswer) → EndsAgree t budget clocked x y
     → x .machine .count ≡ y .pipeline .retired → Level x y
-level g t budget clocked x y r e =
+level t budget clocked x y r e =
     let m = r .plain .0 in
     let n = r .plain .1 in
     record { registers = cc; status = cc; last = cc; stopped = λ h. let w = r .stopped h in (cc (w .0), cc (w .1)) }
 
-module _ (g : Settings) (t : Start) where
+module _ (g : Core) (t : Start) where
   -- what the first n lines of the logs say
   log-at : (n : ℕ) → ((i : ℕ) → i < n → isStopped (steps (plainFrom t) i) ≡ false)
       → Lists (steps (plainFrom t) n .log) (λ i. steps (plainFrom t) i .machine .address) n
@@ -225,7 +225,10 @@ module _ (g : Settings) (t : Start) where
   unfolding dueCycles
   due-at n = listed (dueCycles g (plainFrom t)) (λ i. due g (plainFrom t) (suc i)) n refl (λ i h. refl)
 
-module _ (g : Settings) (t : Start) (budget clocked : ℕ) (log addresses cycles : List ℕ) where
+module _ (t : Start) (budget clocked : ℕ) (log addresses cycles : List ℕ) where
+  abbrev g : Core
+  g = chosen t
+
   module _ (q : ℕ) (x : Performed (plainFrom t) budget q) where
     counts : steps (plainFrom t) budget .machine .count ≡ q
     counts = ap (λ (s : Plain). s .machine .count) (x .settled) ∙ x .count
@@ -260,7 +263,7 @@ module _ (g : Settings) (t : Start) (budget clocked : ℕ) (log addresses cycles
           go (no _) (yes z) = absurd (true≢false (sym h ∙ x .each n z))
           go (no z) (no w) = omega arith
 
-      ends-agree : (a b : List ℕ) → EndsAgree g t budget clocked (plainDone (steps (plainFrom t) budget) log) (pipeDone (clocks g (pipedFrom t) clocked) a b)
+      ends-agree : (a b : List ℕ) → EndsAgree t budget clocked (plainDone (steps (plainFrom t) budget) log) (pipeDone (clocks g (pipedFrom t) clocked) a b)
       unfolding plainDone pipeDone isStopped
       ends-agree a b =
           let e = y .retired in
@@ -281,7 +284,7 @@ module _ (g : Settings) (t : Start) (budget clocked : ℕ) (log addresses cycles
           }
 
       runs-agree : budget ≤ length log → clocked ≤ length addresses → clocked ≤ length cycles
-          → RunsAgree g t budget clocked (plainDone (steps (plainFrom t) budget) log) (pipeDone (clocks g (pipedFrom t) clocked) addresses cycles)
+          → RunsAgree t budget clocked (plainDone (steps (plainFrom t) budget) log) (pipeDone (clocks g (pipedFrom t) clocked) addresses cycles)
       unfolding plainDone pipeDone
       runs-agree a b c =
           let e = y .retired in
@@ -303,7 +306,7 @@ module _ (g : Settings) (t : Start) (budget clocked : ℕ) (log addresses cycles
     unfolding plainFrom
     plain-is = plain-ran (plainFrom t .machine) (t .memory) budget log x
 
-    agreed : Covered g t clocked (plainAnswered t budget log) → (n : ℕ) × Agrees g (plainFrom t) (clocks g (pipedFrom t) clocked) clocked n
+    agreed : Covered t clocked (plainAnswered t budget log) → (n : ℕ) × Agrees g (plainFrom t) (clocks g (pipedFrom t) clocked) clocked n
     unfolding plainDone isStopped
     agreed (to-the-clock k u q) = demand3 g t l k u clocked q
     agreed (to-the-stop h u) =
@@ -314,30 +317,30 @@ module _ (g : Settings) (t : Start) (budget clocked : ℕ) (log addresses cycles
         always g t l (untouched-on (plainFrom t) (performed .0) stopped (subst (Untouched (plainFrom t)) same u)) clocked
 
     -- TWO RUNS, neither refused, as far as the premise reaches
-    pub two-runs : pipeAnswered g t clocked addresses cycles .number ≡ 0 → Covered g t clocked (plainAnswered t budget log)
-        → RunsAgree g t budget clocked (plainAnswered t budget log) (pipeAnswered g t clocked addresses cycles)
-    unfolding pipedFrom
+    pub two-runs : pipeAnswered t clocked addresses cycles .number ≡ 0 → Covered t clocked (plainAnswered t budget log)
+        → RunsAgree t budget clocked (plainAnswered t budget log) (pipeAnswered t clocked addresses cycles)
+    unfolding pipedFrom pipeStart
     two-runs y c =
-        let b = pipe-ran g (pipedFrom t .pipeline) (t .memory) clocked addresses cycles y in
+        let b = pipe-ran (pipedFrom t .pipeline) (t .memory) clocked addresses cycles y in
         let d = agreed c in
         rw (plain-is .0, b .0) (runs-agree (performed .0) (performed .1) (d .0) (d .1) (plain-is .1) (b .1) (b .2))
 
     -- and where the pipeline's run is one without logs
-    pub unlogged-too : pipeUnlogged g t clocked .number ≡ 0 → Covered g t clocked (plainAnswered t budget log)
-        → EndsAgree g t budget clocked (plainAnswered t budget log) (pipeUnlogged g t clocked)
-    unfolding pipedFrom
+    pub unlogged-too : pipeUnlogged t clocked .number ≡ 0 → Covered t clocked (plainAnswered t budget log)
+        → EndsAgree t budget clocked (plainAnswered t budget log) (pipeUnlogged t clocked)
+    unfolding pipedFrom pipeStart
     unlogged-too y c =
         let d = agreed c in
-        rw (plain-is .0, unlogged-ran g (pipedFrom t .pipeline) (t .memory) clocked y .0) (ends-agree (performed .0) (performed .1) (d .0) (d .1) [] [])
+        rw (plain-is .0, unlogged-ran (pipedFrom t .pipeline) (t .memory) clocked y .0) (ends-agree (performed .0) (performed .1) (d .0) (d .1) [] [])
 
     -- the premise up to instruction k + 1 alone: its line and those before it, where the plain engine performed it and it is due
-    pub first-lines : pipeAnswered g t clocked addresses cycles .number ≡ 0 → (k : ℕ) → Untouched (plainFrom t) (suc k)
+    pub first-lines : pipeAnswered t clocked addresses cycles .number ≡ 0 → (k : ℕ) → Untouched (plainFrom t) (suc k)
         → k < plainAnswered t budget log .machine .count → due g (plainFrom t) (suc k) ≤ clocked → (i : ℕ) → i < suc k
-        → (getD (plainAnswered t budget log .log) i 0 ≡ getD (pipeAnswered g t clocked addresses cycles .addresses) i 0)
-        × (getD (pipeAnswered g t clocked addresses cycles .cycles) i 0 ≡ due g (plainFrom t) (suc i))
-    unfolding pipedFrom plainDone pipeDone due
+        → (getD (plainAnswered t budget log .log) i 0 ≡ getD (pipeAnswered t clocked addresses cycles .addresses) i 0)
+        × (getD (pipeAnswered t clocked addresses cycles .cycles) i 0 ≡ due g (plainFrom t) (suc i))
+    unfolding pipedFrom pipeStart plainDone pipeDone due
     first-lines y k u h d i b =
-        let p = pipe-ran g (pipedFrom t .pipeline) (t .memory) clocked addresses cycles y in
+        let p = pipe-ran (pipedFrom t .pipeline) (t .memory) clocked addresses cycles y in
         let r = performed in
         let k′ : k < r .0 = omega (arith, ap (λ (z : PlainAnswer). z .machine .count) (plain-is .0), counts (r .0) (r .1)) in
         let f = logs-begin g t l k u (r .1 .each k k′) clocked d in

@@ -7,7 +7,7 @@ use native.Mathlib.Decide.{decLt}
 use lib.ListN.{length}
 use Rattle.machine.specs.Types.{isBad}
 use Rattle.machine.specs.Plain.{Plain, isStopped, steps}
-use Rattle.clocked.specs.Prediction.{Settings}
+use Rattle.clocked.specs.Prediction.{Core}
 use Rattle.clocked.specs.Charges.{due}
 use Rattle.clocked.specs.Pipeline.{Piped, clocks}
 use Rattle.clocked.specs.Premise.{Untouched}
@@ -18,7 +18,7 @@ use Rattle.clock_laws.specs.Stops.{stays}
 use Rattle.account.specs.Theorem.{demand3}
 
 -- WHICH ARE DUE
-module _ (g : Settings) (s : Plain) where
+module _ (g : Core) (s : Plain) where
   -- "exactly n" says one number
   pub due-only : (c m n : ℕ) → DueBy g s c m → DueBy g s c n → m ≡ n
   due-only c m n a b = go (decLt m n) (decLt n m)
@@ -59,7 +59,7 @@ pub record SameAnswer (p q : Piped) : Type 0 where
   pub kept : isBad (p .pipeline .status) ≡ false → p .pipeline .kept ≡ q .pipeline .kept
   pub stopped : isBad (p .pipeline .status) ≡ true → (p .memory ≡ q .memory) × (p .pipeline .codes ≡ q .pipeline .codes)
 
-pub same-answer : (g : Settings) (s : Plain) (p q : Piped) (c m n : ℕ) → Agrees g s p c m → Agrees g s q c n → SameAnswer p q
+pub same-answer : (g : Core) (s : Plain) (p q : Piped) (c m n : ℕ) → Agrees g s p c m → Agrees g s q c n → SameAnswer p q
 same-answer g s p q c m n a b = go (subst (λ (x : ℕ). Agrees g s p c x) (due-only g s c m n (a .exactly) (b .exactly)) a)
   where
     go : Agrees g s p c n → SameAnswer p q
@@ -93,7 +93,7 @@ untouched-on s n h u K j i a b c r x w y = go (decLt i n)
     go (no q) = true≢false (sym h ∙ runs-before s (i - n) n i (omega arith) r)
 
 -- from a stop on a clock changes nothing
-module _ (g : Settings) (t : Start) (l : length (t .registers) ≡ 15) where
+module _ (g : Core) (t : Start) (l : length (t .registers) ≡ 15) where
   -- THE UNBOUNDED FORM: where the premise holds throughout, after every clock
   pub always : ((K : ℕ) → Untouched (plainFrom t) K) → (c : ℕ) → (n : ℕ) × Agrees g (plainFrom t) (clocks g (pipedFrom t) c) c n
   unfolding due

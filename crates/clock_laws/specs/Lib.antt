@@ -1,2 +1,3 @@
 pub mod Registers
 pub mod Stops
+pub mod Settings

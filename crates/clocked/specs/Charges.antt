@@ -6,7 +6,7 @@ use mathlib.Core.List.{List, [], _∷_, _++_}
 use lib.Dec.{eqb}
 use Rattle.clocked.specs.Record.{Instruction, Accessed, Retired, Kept, noneKept, lastKept, Kinds}
 use Rattle.machine.specs.Table.{is, ret}
-use Rattle.clocked.specs.Prediction.{Settings, mispredicted, loadUse}
+use Rattle.clocked.specs.Prediction.{Core, mispredicted, loadUse}
 use Rattle.machine.specs.Plain.{Plain, fetched, accessed, steps}
 
 -- why an instruction is charged
@@ -15,7 +15,7 @@ pub data Reason : Type 0 where
 
 -- "Charge of instruction k ≥ 2, by its predecessor: 1 if that loads a register among k's sources; 2 if it was a conditional jump not
 -- taken; 3 if ret; else 0."
-unfoldable pub reasonBehind : Settings → Retired → Instruction → Reason
+unfoldable pub reasonBehind : Core → Retired → Instruction → Reason
 reasonBehind g k j =
     let i = k .instruction in
     cond (loadUse g i j) waited
@@ -43,33 +43,33 @@ unfoldable pub retiredOf : Accessed → Retired
 retiredOf w = record { instruction = w .instruction; holds = w .holds }
 
 -- "with none kept, the next one retired is charged 0"
-unfoldable pub reasonFrom : Settings → Kept → Instruction → Reason
+unfoldable pub reasonFrom : Core → Kept → Instruction → Reason
 reasonFrom g noneKept j = free
 reasonFrom g (lastKept k) j = reasonBehind g k j
 
 -- the reason of instruction k of the plain history from s, counted from 1; "Instruction 1 has charge 0."
-unfoldable pub reasonOf : Settings → Plain → ℕ → Reason
+unfoldable pub reasonOf : Core → Plain → ℕ → Reason
 reasonOf g s zero = free
 reasonOf g s (suc zero) = free
 reasonOf g s (suc (suc n)) = reasonBehind g (retiredOf (accessed (steps s n))) (fetched (steps s (suc n)))
 
-unfoldable pub charge : Settings → Plain → ℕ → ℕ
+unfoldable pub charge : Core → Plain → ℕ → ℕ
 charge g s k = amount (reasonOf g s k)
 
 -- the charges of instructions 1 to k, in all and by kind
-unfoldable pub charges : Settings → Plain → ℕ → ℕ
+unfoldable pub charges : Core → Plain → ℕ → ℕ
 charges g s zero = 0
 charges g s (suc k) = charges g s k + charge g s (suc k)
 
-unfoldable pub kindsOf : Settings → Plain → ℕ → Kinds
+unfoldable pub kindsOf : Core → Plain → ℕ → Kinds
 kindsOf g s zero = noKinds
 kindsOf g s (suc k) = counted (kindsOf g s k) (reasonOf g s (suc k))
 
 -- demand 3: "the k-th in cycle k + 4 plus the charges of instructions 1 to k"
-unfoldable pub due : Settings → Plain → ℕ → ℕ
+unfoldable pub due : Core → Plain → ℕ → ℕ
 due g s k = k + 4 + charges g s k
 
 -- the cycles in which instructions 1 to k are due, in order
-unfoldable pub dueCycles : Settings → Plain → ℕ → List ℕ
+unfoldable pub dueCycles : Core → Plain → ℕ → List ℕ
 dueCycles g s zero = []
 dueCycles g s (suc k) = dueCycles g s k ++ due g s (suc k) ∷ []

@@ -9,7 +9,7 @@ use Rattle.clocked.specs.PipeRuns
 unfoldable pub computing : Unit {0}
 unfolding
     Base.computing
-    Prediction.guess Prediction.predictedNext Prediction.mispredicted Prediction.meets Prediction.loadUse
+    Prediction.rule Prediction.guess Prediction.predictedNext Prediction.mispredicted Prediction.meets Prediction.loadUse
     Charges.reasonBehind Charges.amount Charges.noKinds Charges.counted Charges.retiredOf Charges.reasonFrom Charges.reasonOf Charges.charge
     Charges.charges Charges.kindsOf Charges.due Charges.dueCycles
     Pipeline.pipeStart Pipeline.afterE Pipeline.afterM Pipeline.codesAfter Pipeline.memoryAfter Pipeline.registersAfter Pipeline.pastResult

@@ -9,7 +9,7 @@ use Rattle.machine.specs.Table.{rowOf, is, cmov, operation, jump}
 use Rattle.machine.specs.Runs.{laid, sizeRefused, budgetRefused, logRefused, lowest}
 use Rattle.clocked.specs.Record.{Pipeline, Instruction, StageD, bubbleD, inD, StageE, bubbleE, inE, StageM, bubbleM, inM, StageW, bubbleW, inW}
 use Rattle.clocked.specs.Record.{Kept, noneKept, lastKept}
-use Rattle.clocked.specs.Prediction.{Settings}
+use Rattle.clocked.specs.Prediction.{coreOf}
 use Rattle.clocked.specs.Pipeline.{Piped, pipedOf, clocks}
 
 -- 5: "register number over 15, code without functions in the table, move or jump function over 6, OPq function over 3"
@@ -72,17 +72,18 @@ pipeAnswer n k m a y = record { number = n; pipeline = k; memory = m; addresses 
 unfoldable pub pipeDone : Piped → List ℕ → List ℕ → PipeAnswer
 pipeDone p a y = pipeAnswer 0 (p .pipeline) (p .memory) (laid (p .addressLog) a) (laid (p .cycleLog) y)
 
-unfoldable pub pipeBy : Settings → List ℕ → Pipeline → Memory → ℕ → List ℕ → List ℕ → PipeAnswer
-pipeBy g logs k m budget a y =
+-- the clocks are those of the core that the record's own settings choose
+unfoldable pub pipeBy : List ℕ → Pipeline → Memory → ℕ → List ℕ → List ℕ → PipeAnswer
+pipeBy logs k m budget a y =
     let n = pipeRefusal k (length m) budget logs in
-    cond (eqb n 0) (pipeDone (clocks g (pipedOf k m) budget) a y) (pipeAnswer n k m a y)
+    cond (eqb n 0) (pipeDone (clocks (coreOf (k .settings)) (pipedOf k m) budget) a y) (pipeAnswer n k m a y)
 
-unfoldable pub pipeRun : Settings → Pipeline → Memory → ℕ → List ℕ → List ℕ → PipeAnswer
-pipeRun g k m budget a y = pipeBy g (length a ∷ length y ∷ []) k m budget a y
+unfoldable pub pipeRun : Pipeline → Memory → ℕ → List ℕ → List ℕ → PipeAnswer
+pipeRun k m budget a y = pipeBy (length a ∷ length y ∷ []) k m budget a y
 
 -- a run without logs, and a clock, which is one of 1
-unfoldable pub pipeRunUnlogged : Settings → Pipeline → Memory → ℕ → PipeAnswer
-pipeRunUnlogged g k m budget = pipeBy g [] k m budget [] []
+unfoldable pub pipeRunUnlogged : Pipeline → Memory → ℕ → PipeAnswer
+pipeRunUnlogged k m budget = pipeBy [] k m budget [] []
 
-unfoldable pub pipeClock : Settings → Pipeline → Memory → PipeAnswer
-pipeClock g k m = pipeRunUnlogged g k m 1
+unfoldable pub pipeClock : Pipeline → Memory → PipeAnswer
+pipeClock k m = pipeRunUnlogged k m 1

@@ -3,13 +3,13 @@ use Prim.Native.Nat.{ℕ, zero, suc, _+_}
 use mathlib.Core.Bool.{Bool, false, cond, _||_}
 use mathlib.Core.List.{List, [], _∷_, _++_}
 use Rattle.machine.specs.Types.{isBad}
-use Rattle.clocked.specs.Record.{Pipeline, Instruction, Accessed, Codes, aok, Kinds}
+use Rattle.clocked.specs.Record.{Settings, Pipeline, Instruction, Accessed, Codes, aok, Kinds}
 use Rattle.clocked.specs.Record.{StageD, bubbleD, inD, StageE, bubbleE, inE, StageM, bubbleM, inM, StageW, bubbleW, inW, Kept, noneKept, lastKept}
 use Rattle.machine.specs.Memory.{Memory, Registers, value}
 use Rattle.machine.specs.Table.{is, ret}
 use Rattle.machine.specs.Fetch.{fetch}
 use Rattle.machine.specs.Stages.{decode, execute, access, newCodes, newMemory, newRegisters, resultTarget, loadedTarget, turned}
-use Rattle.clocked.specs.Prediction.{Settings, predictedNext, mispredicted, meets, loadUse}
+use Rattle.clocked.specs.Prediction.{Core, predictedNext, mispredicted, meets, loadUse}
 use Rattle.clocked.specs.Charges.{noKinds, counted, retiredOf, reasonFrom}
 
 -- the record, its memory, and what has been logged of each retirement so far: its address and its cycle
@@ -20,9 +20,10 @@ pub record Piped : Type 0 where
   pub cycleLog : List ℕ
 
 -- "At a fresh start F holds the start address and the rest are bubbles."
-unfoldable pub pipeStart : Registers → Codes → ℕ → Pipeline
-pipeStart r c a =
+unfoldable pub pipeStart : Settings → Registers → Codes → ℕ → Pipeline
+pipeStart s r c a =
     record {
+      settings = s;
       predicted = a;
       d = bubbleD;
       e = bubbleE;
@@ -86,21 +87,21 @@ source p q = pastResult (afterE (p .pipeline .e) (p .pipeline .codes)) q (source
 
 -- SIGNALS
 -- "load-use (mrmovq or popq in E whose loaded register is a source in D)"
-unfoldable pub waitsBehind : Settings → StageE → StageD → Bool
+unfoldable pub waitsBehind : Core → StageE → StageD → Bool
 waitsBehind g bubbleE d = false
 waitsBehind g (inE x) bubbleD = false
 waitsBehind g (inE x) (inD j) = loadUse g (x .instruction) j
 
-unfoldable pub waits : Settings → Piped → Bool
+unfoldable pub waits : Core → Piped → Bool
 waits g p = waitsBehind g (p .pipeline .e) (p .pipeline .d)
 
 -- an executed jump that was guessed wrongly
-unfoldable pub wrong : Settings → StageM → Bool
+unfoldable pub wrong : Core → StageM → Bool
 wrong g bubbleM = false
 wrong g (inM x) = mispredicted g (x .instruction) (x .holds)
 
 -- "misprediction (jXX in E, condition false)"
-unfoldable pub mispredicts : Settings → Piped → Bool
+unfoldable pub mispredicts : Core → Piped → Bool
 mispredicts g p = wrong g (afterE (p .pipeline .e) (p .pipeline .codes))
 
 unfoldable pub retInD : StageD → Bool
@@ -134,23 +135,23 @@ returnedTo bubbleW f = f
 returnedTo (inW w) f = cond (is ret (w .instruction)) (w .word) f
 
 -- "if M holds a jump whose condition was false, that jump's next address"
-unfoldable pub mended : Settings → StageM → ℕ → ℕ
+unfoldable pub mended : Core → StageM → ℕ → ℕ
 mended g bubbleM f = f
 mended g (inM x) f = cond (mispredicted g (x .instruction) (x .holds)) (turned (x .instruction) (x .holds)) f
 
-unfoldable pub fetchAddress : Settings → Piped → ℕ
+unfoldable pub fetchAddress : Core → Piped → ℕ
 fetchAddress g p = mended g (p .pipeline .m) (returnedTo (p .pipeline .w) (p .pipeline .predicted))
 
-unfoldable pub fetchedNow : Settings → Piped → Instruction
+unfoldable pub fetchedNow : Core → Piped → Instruction
 fetchedNow g p = fetch (p .memory) (fetchAddress g p)
 
 -- CONTROLS AT THE END OF A CLOCK
 -- F: held for load-use and for ret
-unfoldable pub nextF : Settings → Piped → ℕ
+unfoldable pub nextF : Core → Piped → ℕ
 nextF g p = cond (waits g p || returns p) (p .pipeline .predicted) (predictedNext g (fetchedNow g p))
 
 -- D: a bubble for misprediction; held for load-use; a bubble for ret
-unfoldable pub nextD : Settings → Piped → StageD
+unfoldable pub nextD : Core → Piped → StageD
 nextD g p = cond (mispredicts g p) bubbleD (cond (waits g p) (p .pipeline .d) (cond (returns p) bubbleD (inD (fetchedNow g p))))
 
 unfoldable pub decodedD : Piped → StageD → StageE
@@ -158,7 +159,7 @@ decodedD p bubbleD = bubbleE
 decodedD p (inD i) = inE (decode i (source p))
 
 -- E: a bubble for misprediction and for load-use
-unfoldable pub nextE : Settings → Piped → StageE
+unfoldable pub nextE : Core → Piped → StageE
 nextE g p = cond (mispredicts g p || waits g p) bubbleE (decodedD p (p .pipeline .d))
 
 -- M: "bad status in M, after its access: bubble into M."
@@ -179,7 +180,7 @@ unfoldable pub retiredAfter : StageW → ℕ → ℕ
 retiredAfter bubbleW n = n
 retiredAfter (inW w) n = n + 1
 
-unfoldable pub kindsAfter : Settings → StageW → Kept → Kinds → Kinds
+unfoldable pub kindsAfter : Core → StageW → Kept → Kinds → Kinds
 kindsAfter g bubbleW k t = t
 kindsAfter g (inW w) k t = counted t (reasonFrom g k (w .instruction))
 
@@ -193,12 +194,13 @@ logged bubbleW x = []
 logged (inW w) x = x ∷ []
 
 -- A CLOCK in which no bad status stands in W
-unfoldable pub advanced : Settings → Piped → Piped
+unfoldable pub advanced : Core → Piped → Piped
 advanced g p =
     let k = p .pipeline in
     record {
       pipeline =
           record {
+            settings = k .settings;
             predicted = nextF g p;
             d = nextD g p;
             e = nextE g p;
@@ -219,12 +221,13 @@ advanced g p =
     }
 
 -- "When its status is bad, that clock changes only the counts, logs, status and last address: everything else stays as it stood."
-unfoldable pub stoppedIn : Settings → Piped → Accessed → Piped
+unfoldable pub stoppedIn : Core → Piped → Accessed → Piped
 stoppedIn g p w =
     let k = p .pipeline in
     record {
       pipeline =
           record {
+            settings = k .settings;
             predicted = k .predicted;
             d = k .d;
             e = k .e;
@@ -244,15 +247,15 @@ stoppedIn g p w =
       cycleLog = p .cycleLog ++ (k .cycles + 1) ∷ [];
     }
 
-unfoldable pub clockBy : Settings → Piped → StageW → Piped
+unfoldable pub clockBy : Core → Piped → StageW → Piped
 clockBy g p bubbleW = advanced g p
 clockBy g p (inW w) = cond (isBad (w .status)) (stoppedIn g p w) (advanced g p)
 
 -- "A step or clock on a stopped machine changes nothing, counts nothing and logs nothing."
-unfoldable pub clock : Settings → Piped → Piped
+unfoldable pub clock : Core → Piped → Piped
 clock g p = cond (isBad (p .pipeline .status)) p (clockBy g p (p .pipeline .w))
 
 -- the state after n clocks: "A run ends at a stop or a spent budget", since from a stop on a clock changes nothing
-unfoldable pub clocks : Settings → Piped → ℕ → Piped
+unfoldable pub clocks : Core → Piped → ℕ → Piped
 clocks g p zero = p
 clocks g p (suc n) = clock g (clocks g p n)

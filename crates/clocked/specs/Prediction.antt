@@ -1,38 +1,43 @@
--- The settings of a pipeline, and the two rules that depend on them: prediction and the load-use wait.
+-- In what cores differ, the settings that choose it, and the two rules that depend on it: prediction and the load-use wait.
 use Prim.Native.Nat.{ℕ}
 use mathlib.Core.Bool.{Bool, true, cond, not, _&&_, _||_, Bool·beq}
 use lib.Dec.{ltb, eqb}
-use Rattle.clocked.specs.Record.{Instruction}
+use Rattle.clocked.specs.Record.{Instruction, Settings}
 use Rattle.machine.specs.Table.{is, jump}
 use Rattle.machine.specs.Stages.{sourceA, sourceB, loadedTarget, turned, straight}
 
--- how a jump is predicted; document 01 has one rule
-pub data Rule : Type 0 where
-  taken : Rule
+-- what one core may do otherwise than another: is a conditional jump, as fetched, guessed to go to C
+pub record Core : Type 0 where
+  pub guesses : Instruction → Bool
 
-pub record Settings : Type 0 where
-  pub rule : Rule
+-- the rule of that number; document 01 has one
+unfoldable pub rule : ℕ → Instruction → Bool
+rule n i = true
+
+-- the core that a record's settings choose
+abbrev pub coreOf : Settings → Core
+coreOf s = record { guesses = rule (s .rule) }
 
 -- document 01's own settings
 abbrev pub asIn01 : Settings
-asIn01 = record { rule = taken }
+asIn01 = record { rule = 0 }
 
--- is this jump guessed to go to C
-unfoldable pub guess : Rule → Instruction → Bool
-guess taken i = true
+-- is this jump guessed to go to C; the unconditional one is, whatever the core
+unfoldable pub guess : Core → Instruction → Bool
+guess g i = eqb (i .function) 0 || g .guesses i
 
 -- "Prediction: call and jXX go to C, others to the next address."
-unfoldable pub predictedNext : Settings → Instruction → ℕ
-predictedNext g i = cond (is jump i) (turned i (guess (g .rule) i)) (straight i)
+unfoldable pub predictedNext : Core → Instruction → ℕ
+predictedNext g i = cond (is jump i) (turned i (guess g i)) (straight i)
 
 -- a jump whose condition came out otherwise than guessed: under document 01's rule, "condition false"
-unfoldable pub mispredicted : Settings → Instruction → Bool → Bool
-mispredicted g i holds = is jump i && not (Bool·beq holds (guess (g .rule) i))
+unfoldable pub mispredicted : Core → Instruction → Bool → Bool
+mispredicted g i holds = is jump i && not (Bool·beq holds (guess g i))
 
 -- a target meets a source: "Register 15 as a source reads 0 and matches nothing"
 unfoldable pub meets : ℕ → ℕ → Bool
 meets target source = ltb source 15 && eqb target source
 
 -- load-use: the first instruction's "loaded register is a source" of the second
-unfoldable pub loadUse : Settings → Instruction → Instruction → Bool
+unfoldable pub loadUse : Core → Instruction → Instruction → Bool
 loadUse g i j = meets (loadedTarget i) (sourceA j) || meets (loadedTarget i) (sourceB j)

@@ -10,6 +10,11 @@ use machine::Status;
 // The most cycles that are not refused.
 pub const PIPE_LIMIT: u64 = 262145;
 
+// In what one core may differ from another: the number of the rule by which it predicts conditional jumps.
+pub struct Settings {
+    pub rule: u8,
+}
+
 // What is kept of the last instruction retired with AOK, for its follower's charge.
 pub struct Retired {
     pub instruction: Instruction,
@@ -49,8 +54,9 @@ pub struct Kinds {
     pub returned: u64,
 }
 
-// The pipelined engine's record: F is the predicted address alone.
+// The pipelined engine's record: its settings, which stay; F is the predicted address alone.
 pub struct Pipeline {
+    pub settings: Settings,
     pub predicted: u64,
     pub d: StageD,
     pub e: StageE,

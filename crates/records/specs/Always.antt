@@ -7,7 +7,7 @@ use lib.Dec.{eqb}
 use lib.ListN.{length, take, drop}
 use Rattle.machine.specs.Types.{isBad}
 use Rattle.machine.specs.Memory.{Memory, Registers, inside, load, store, value, written}
-use Rattle.clocked.specs.Prediction.{Settings, meets}
+use Rattle.clocked.specs.Prediction.{Core, meets}
 use Rattle.clocked.specs.Pipeline.{Piped, clock, clockBy, stoppedIn}
 use Rattle.machine.specs.Runs.{plainRefusal, plainBy, plainAnswer, laid}
 use Rattle.clocked.specs.PipeRuns.{pipeRefusal, pipeBy, pipeAnswer}
@@ -20,11 +20,11 @@ pub plain-unchanged : (logs : List ℕ) (k : Machine) (m : Memory) (budget : ℕ
 unfolding plainBy
 plain-unchanged logs k m budget log h = rw h
 
-pub pipe-unchanged : (g : Settings) (logs : List ℕ) (k : Pipeline) (m : Memory) (budget : ℕ) (a y : List ℕ)
+pub pipe-unchanged : (logs : List ℕ) (k : Pipeline) (m : Memory) (budget : ℕ) (a y : List ℕ)
     → let n = pipeRefusal k (length m) budget logs in
-    eqb n 0 ≡ false → pipeBy g logs k m budget a y ≡ pipeAnswer n k m a y
+    eqb n 0 ≡ false → pipeBy logs k m budget a y ≡ pipeAnswer n k m a y
 unfolding pipeBy
-pipe-unchanged g logs k m budget a y h = rw h
+pipe-unchanged logs k m budget a y h = rw h
 
 -- "When its status is bad, that clock changes only the counts, logs, status and last address: everything else stays as it stood."
 pub record Stays (p q : Piped) (x : Accessed) : Type 0 where
@@ -45,7 +45,7 @@ pub record Stays (p q : Piped) (x : Accessed) : Type 0 where
   pub addressLog : q .addressLog ≡ p .addressLog ++ x .instruction .address ∷ []
   pub cycleLog : q .cycleLog ≡ p .cycleLog ++ (p .pipeline .cycles + 1) ∷ []
 
-pub stop-stays : (g : Settings) (p : Piped) (x : Accessed) → isBad (p .pipeline .status) ≡ false → p .pipeline .w ≡ inW x → isBad (x .status) ≡ true
+pub stop-stays : (g : Core) (p : Piped) (x : Accessed) → isBad (p .pipeline .status) ≡ false → p .pipeline .w ≡ inW x → isBad (x .status) ≡ true
     → Stays p (clock g p) x
 unfolding clock clockBy stoppedIn
 stop-stays g p x r e b =

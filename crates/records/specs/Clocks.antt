@@ -5,6 +5,7 @@ use mathlib.Core.Bool.{true, false}
 use mathlib.Core.List.{List, [], _∷_}
 use lib.ListN.{replicate}
 use Rattle.machine.specs.Memory.{Memory}
+use Rattle.clocked.specs.Prediction.{asIn01}
 use Rattle.clocked.specs.Pipeline.{pipeStart}
 use Rattle.clocked.specs.PipeRuns.{PipeAnswer, pipeAnswer}
 use Rattle.records.specs.Names.{Instruction, Status, aok, hlt, adr, ins}
@@ -49,7 +50,7 @@ busy t i =
 unfoldable pub rowsOfClock : List Row
 rowsOfClock =
     -- "At a fresh start F holds the start address and the rest are bubbles." "Last address is that of the last retired instruction, or the start address."
-    answers {A = PipeAnswer} "R8.3 At a fresh start" (pipeAnswer 0 (pipeStart (given ((14, 9) ∷ [])) (coded 5) 77) [] [] [])
+    answers {A = PipeAnswer} "R8.3 At a fresh start" (pipeAnswer 0 (pipeStart asIn01 (given ((14, 9) ∷ [])) (coded 5) 77) [] [] [])
     ((predicted, 77) ∷ (d address, bubble) ∷ (e address, bubble) ∷ (m address, bubble) ∷ (w address, bubble) ∷ (register 14, 9) ∷ (codesNow, 5)
     ∷ (status, 1) ∷ (last, 77) ∷ (retired, 0) ∷ (cycles, 0) ∷ (loaduse, 0) ∷ (mispredict, 0) ∷ (returned, 0) ∷ (kept address, bubble) ∷ [])
     -- "Fetch address: if M holds a jump whose condition was false, that jump's next address; else if W holds ret, the word it read; else the predicted one."

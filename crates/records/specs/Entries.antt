@@ -5,7 +5,6 @@ use mathlib.Core.Bool.{true, cond}
 use mathlib.Core.List.{List, [], _∷_}
 use lib.ListN.{replicate}
 use Rattle.machine.specs.Memory.{Memory}
-use Rattle.clocked.specs.Prediction.{asIn01}
 use Rattle.machine.specs.Plain.{plainOf, plainStart}
 use Rattle.clocked.specs.Premise.{writesByte, hasByte}
 use Rattle.machine.specs.Runs.{PlainAnswer, plainAnswer, plainRefusal as plainRefuses, plainStep}
@@ -36,11 +35,11 @@ anywhere s n i =
     (n ∷ n ∷ n ∷ n ∷ n ∷ [])
   where
     number : Change → ℕ
-    number f = refusal (pipeRunUnlogged asIn01 (with (f ∷ [])) short 1)
+    number f = refusal (pipeRunUnlogged (with (f ∷ [])) short 1)
 
 -- the same with these counts
 abbrev counting : String → ℕ → Change → Row
-counting s n f = answers s (pipeRunUnlogged asIn01 (with (f ∷ [])) short 1) ((refusal, n) ∷ [])
+counting s n f = answers s (pipeRunUnlogged (with (f ∷ [])) short 1) ((refusal, n) ∷ [])
 
 -- a plain record: register rbx is 6, codes 7
 abbrev machine : (address : ℕ) → Status → (last count : ℕ) → Machine
@@ -87,12 +86,12 @@ rowsOfEntries =
     ((plainRefusal, 0) ∷ (plainCount, 65536) ∷ (plainAddress, 2) ∷ [])
     ∷ answers "R13.4 A step is refused as a run is" (plainStep (machine 1 aok 0 65536) short)
     ((plainRefusal, 3) ∷ (plainCount, 65536) ∷ (plainAddress, 1) ∷ [])
-    ∷ answers "R13.4 A clock is a run of 1 without logs" (pipeClock asIn01 (with (counts 0 262144 0 0 0 ∷ [])) short)
+    ∷ answers "R13.4 A clock is a run of 1 without logs" (pipeClock (with (counts 0 262144 0 0 0 ∷ [])) short)
     ((refusal, 0) ∷ (cycles, 262145) ∷ (predicted, 1) ∷ [])
-    ∷ answers "R13.4 A clock is refused as a run is" (pipeClock asIn01 (with (counts 0 262145 0 0 0 ∷ [])) short)
+    ∷ answers "R13.4 A clock is refused as a run is" (pipeClock (with (counts 0 262145 0 0 0 ∷ [])) short)
     ((refusal, 3) ∷ (cycles, 262145) ∷ (predicted, 0) ∷ [])
-    ∷ answers "R14.4 a clock can meet 5" (pipeClock asIn01 (with (D (unknown 0) ∷ [])) short) ((refusal, 5) ∷ (cycles, 0) ∷ (d address, 0) ∷ [])
-    ∷ answers "R14.4 a clock can meet 1" (pipeClock asIn01 (with []) []) ((refusal, 1) ∷ (cycles, 0) ∷ [])
+    ∷ answers "R14.4 a clock can meet 5" (pipeClock (with (D (unknown 0) ∷ [])) short) ((refusal, 5) ∷ (cycles, 0) ∷ (d address, 0) ∷ [])
+    ∷ answers "R14.4 a clock can meet 1" (pipeClock (with []) []) ((refusal, 1) ∷ (cycles, 0) ∷ [])
     ∷ answers "R14.4 a step can meet 1" (plainStep (machine 1 aok 0 7) []) ((plainRefusal, 1) ∷ (plainCount, 7) ∷ [])
     -- refusals: each of its own, at both ends
     ∷ refuses "R14.1 1: N is 0" 1 [] [] 1 (nines 1) (nines 1)

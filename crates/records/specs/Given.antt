@@ -5,6 +5,7 @@ use mathlib.Core.List.{List, [], _∷_, _++_}
 use lib.Dec.{eqb}
 use lib.ListN.{set, replicate}
 use Rattle.machine.specs.Memory.{Memory, Registers}
+use Rattle.clocked.specs.Prediction.{asIn01}
 use Rattle.clocked.specs.Pipeline.{pipeStart}
 use Rattle.records.specs.Names.{Status, aok, Codes, Instruction, StageD, inD, StageE, inE, StageM, inM, StageW, inW, Kept, lastKept, Kinds, Pipeline}
 
@@ -86,7 +87,7 @@ fetchedAs s i =
 -- THE RECORD
 -- a fresh one: registers 0, codes ZF=1, start 0
 abbrev pub fresh : Pipeline
-fresh = pipeStart (replicate 15 0) (coded 4) 0
+fresh = pipeStart asIn01 (replicate 15 0) (coded 4) 0
 
 abbrev pub Change : Type 0
 Change = Pipeline → Pipeline
@@ -95,6 +96,7 @@ Change = Pipeline → Pipeline
 abbrev stages : ℕ → StageD → StageE → StageM → StageW → Change
 stages f d e m w k =
     record {
+      settings = k .settings;
       predicted = f;
       d = d;
       e = e;
@@ -113,6 +115,7 @@ stages f d e m w k =
 abbrev values : Registers → Codes → Change
 values r c k =
     record {
+      settings = k .settings;
       predicted = k .predicted;
       d = k .d;
       e = k .e;
@@ -131,6 +134,7 @@ values r c k =
 abbrev books : Status → (last retired cycles : ℕ) → Kinds → Kept → Change
 books s a n y t x k =
     record {
+      settings = k .settings;
       predicted = k .predicted;
       d = k .d;
       e = k .e;

@@ -8,7 +8,6 @@ use lib.ListN.{getD}
 use Rattle.machine.specs.Types.{statusNumber, codesNumber}
 use Rattle.machine.specs.Words.{number}
 use Rattle.machine.specs.Memory.{Memory}
-use Rattle.clocked.specs.Prediction.{asIn01}
 use Rattle.machine.specs.Runs.{PlainAnswer, plainRun}
 use Rattle.clocked.specs.PipeRuns.{PipeAnswer, pipeRun, pipeRunUnlogged}
 use Rattle.clocked.specs.Computing.{computing}
@@ -205,11 +204,11 @@ answers s r ls = (s, seen r ls)
 
 -- so many clocks of the record with these changes, not refused
 abbrev pub clocked : String → List Change → Memory → (clocks : ℕ) → List (Look PipeAnswer) → Row
-clocked s cs m n ls = answers s (pipeRunUnlogged asIn01 (with cs) m n) ((refusal, 0) ∷ ls)
+clocked s cs m n ls = answers s (pipeRunUnlogged (with cs) m n) ((refusal, 0) ∷ ls)
 
 -- a run of the record with these changes, with both logs
 abbrev pub ran : String → List Change → Memory → (budget : ℕ) → (addresses cycles : List ℕ) → List (Look PipeAnswer) → Row
-ran s cs m n a y ls = answers s (pipeRun asIn01 (with cs) m n a y) ls
+ran s cs m n a y ls = answers s (pipeRun (with cs) m n a y) ls
 
 -- a plain run
 abbrev pub performed : String → Machine → Memory → (budget : ℕ) → (log : List ℕ) → List (Look PlainAnswer) → Row

@@ -4,7 +4,6 @@ use Prim.Native.String.{String}
 use mathlib.Core.Bool.{true, false}
 use mathlib.Core.List.{List, [], _∷_}
 use Rattle.machine.specs.Memory.{Memory}
-use Rattle.clocked.specs.Prediction.{asIn01}
 use Rattle.clocked.specs.PipeRuns.{pipeRunUnlogged}
 use Rattle.records.specs.Names.{Instruction, aok, hlt, ins}
 use Rattle.records.specs.Given.{Change, image, with, file, registers, codes, D, E, M, W, nop, cmov, irmovq, rmmovq, mrmovq, operation, jump, call}
@@ -37,7 +36,7 @@ abbrev conditions : String → (codes : ℕ) → List ℕ → Row
 conditions s c = numbers s (held 0 ∷ held 1 ∷ held 2 ∷ held 3 ∷ held 4 ∷ held 5 ∷ held 6 ∷ [])
   where
     held : ℕ → ℕ
-    held f = holds (pipeRunUnlogged asIn01 (with (E (jump f 0 0) 0 0 ∷ codes c ∷ [])) halts 1)
+    held f = holds (pipeRunUnlogged (with (E (jump f 0 0) 0 0 ∷ codes c ∷ [])) halts 1)
 
 -- any other instruction in E with both values, and its result
 abbrev executes : String → Instruction → (a b result : ℕ) → Row
