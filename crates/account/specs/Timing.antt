@@ -5,10 +5,10 @@ use mathlib.Core.Logic.{_⊎_, inl, inr, ⊎-map}
 use mathlib.Core.Path.{_≡_, refl, sym, _∙_}
 use native.Mathlib.Omega.{arith}
 use native.Mathlib.Decide.{decLt}
-use Rattle.account.specs.Names.{Kinds}
+use Rattle.account.specs.Names.{Kinds, Reason, free, waited, wronglyGuessed, returned}
 use Rattle.machine.specs.Plain.{Plain, isStopped, steps}
 use Rattle.clocked.specs.Prediction.{Core}
-use Rattle.clocked.specs.Charges.{Reason, free, waited, wronglyGuessed, returned, amount, noKinds, counted, reasonOf, charge, charges, kindsOf, due}
+use Rattle.clocked.specs.Charges.{amount, noKinds, counted, reasonOf, charge, charges, kindsOf, due}
 use Rattle.clocked.specs.Pipeline.{Piped}
 use Rattle.account.specs.Statement.{DueBy}
 use Rattle.account.specs.Relation.{Beyond, AtF, AtD, AtE, AtM, AtW, beyondF, stopF, readyF, beyondD, stopD, emptyD, fullD}

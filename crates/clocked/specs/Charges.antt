@@ -4,14 +4,10 @@ use Prim.Native.Nat.{ℕ, zero, suc, _+_}
 use mathlib.Core.Bool.{cond, not, _&&_}
 use mathlib.Core.List.{List, [], _∷_, _++_}
 use lib.Dec.{eqb}
-use Rattle.clocked.specs.Record.{Instruction, Accessed, Retired, Kept, noneKept, lastKept, Kinds}
+use Rattle.clocked.specs.Record.{Instruction, Accessed, Retired, Kept, noneKept, lastKept, Reason, free, waited, wronglyGuessed, returned, Kinds}
 use Rattle.machine.specs.Table.{is, ret}
 use Rattle.clocked.specs.Prediction.{Core, mispredicted, loadUse}
 use Rattle.machine.specs.Plain.{Plain, fetched, accessed, steps}
-
--- why an instruction is charged
-pub data Reason : Type 0 where
-  free waited wronglyGuessed returned : Reason
 
 -- "Charge of instruction k ≥ 2, by its predecessor: 1 if that loads a register among k's sources; 2 if it was a conditional jump not
 -- taken; 3 if ret; else 0."

@@ -47,6 +47,14 @@ pub enum Kept {
     LastKept(Retired),
 }
 
+// Why an instruction is charged, or that it is not.
+pub enum Reason {
+    Free,
+    Waited,
+    WronglyGuessed,
+    Returned,
+}
+
 // The cycles charged so far, by kind.
 pub struct Kinds {
     pub loaduse: u64,

@@ -21,7 +21,9 @@ use Rattle.clocked.specs.declared.StageW.the-variants.{BubbleW as bubbleW, InW 
 use Rattle.machine.specs.Types.{isBad}
 use Rattle.machine.specs.Memory.{Memory}
 use Rattle.clocked.specs.Prediction.{asIn01}
-use Rattle.clocked.specs.Charges.{Reason, free, waited, wronglyGuessed, returned, counted, reasonFrom}
+use Rattle.clocked.specs.declared.Reason.{Reason}
+use Rattle.clocked.specs.declared.Reason.the-variants.{Free as free, Waited as waited, WronglyGuessed as wronglyGuessed, Returned as returned}
+use Rattle.clocked.specs.Charges.{counted, reasonFrom}
 use Rattle.clocked.specs.Pipeline.{Piped, pipedOf, badInW, memoryAfter, registersAfter, retiredAfter, kindsAfter, logged, clock, clocks}
 use Rattle.machine.specs.Runs.{laid}
 use Rattle.clocked.specs.PipeRuns.{countsRefused, pipeLimit, PipeAnswer, pipeAnswer, pipeDone}

@@ -12,44 +12,66 @@ use Rattle.clocked.specs.declared.StageW.{StageW}
 use Rattle.clocked.specs.declared.StageW.the-variants.{BubbleW as bubbleW, InW as inW}
 use Rattle.clocked.specs.declared.Kept.{Kept}
 use Rattle.clocked.specs.declared.Kept.the-variants.{NoneKept as noneKept, LastKept as lastKept}
+use Rattle.clocked.specs.declared.Reason.{Reason}
+use Rattle.clocked.specs.declared.Reason.the-variants.{Free as free, Waited as waited, WronglyGuessed as wronglyGuessed, Returned as returned}
 use Rattle.clocked.specs.declared.Kinds.{Kinds}
 use Rattle.machine.specs.Types.{isBad}
 use Rattle.machine.specs.Table.{is}
 use Rattle.machine.specs.Stages.{sourceA, sourceB, loadedTarget}
-use Rattle.clocked.specs.Prediction.{asIn01, mispredicted, meets, loadUse}
-use Rattle.clocked.specs.Charges.{Reason, free, waited, wronglyGuessed, returned, amount, reasonBehind, reasonFrom, counted, retiredOf}
+use Rattle.clocked.specs.Prediction.{Core, mispredicted, meets, loadUse}
+use Rattle.clocked.specs.Charges.{reasonBehind, reasonFrom, counted, retiredOf}
 use Rattle.clocked.specs.Pipeline.{badInW, lastAfter, retiredAfter, kindsAfter, keptAfter}
 use Rattle.retiring.specs.declared.Tally.{Tally}
-use Rattle.retiring.specs.Retiring.{countedBy, keptBy, retires, statusAfter, tallyAfter}
+use Rattle.retiring.specs.Retiring.{keptBy, retires, statusAfter, tallyAfter}
 
--- the charge by the predecessor
-module _ (k : Retired) (j : Instruction) (l a s : ℕ) (b c : Bool) (el : l ≡ loadedTarget (k .instruction)) (ea : a ≡ sourceA j) (es : s ≡ sourceB j)
+-- why an instruction is charged, by its predecessor
+module _ (g : Core) (k : Retired) (j : Instruction) (l a s : ℕ) (b c : Bool) (el : l ≡ loadedTarget (k .instruction)) (ea : a ≡ sourceA j) (es : s ≡ sourceB j)
     (eb : b ≡ (meets l a || meets l s)) where
-  pub loaded-before : b ≡ true → 1 ≡ amount (reasonBehind asIn01 k j)
-  unfolding reasonBehind amount loadUse
+  pub loaded-before : b ≡ true → waited ≡ reasonBehind g k j
+  unfolding reasonBehind loadUse
   loaded-before h = cc
 
-  module _ (h : b ≡ false) (ec : c ≡ mispredicted asIn01 (k .instruction) (k .holds)) where
-    pub jumped-before : c && not (eqb (k .instruction .function) 0) ≡ true → 2 ≡ amount (reasonBehind asIn01 k j)
-    unfolding reasonBehind amount loadUse
+  module _ (h : b ≡ false) (ec : c ≡ mispredicted g (k .instruction) (k .holds)) where
+    pub jumped-before : c && not (eqb (k .instruction .function) 0) ≡ true → wronglyGuessed ≡ reasonBehind g k j
+    unfolding reasonBehind loadUse
     jumped-before t = cc
 
     module _ (t : c && not (eqb (k .instruction .function) 0) ≡ false) where
-      pub returned-before : k .instruction .code ≡ 9 → 3 ≡ amount (reasonBehind asIn01 k j)
-      unfolding reasonBehind amount loadUse is
+      pub returned-before : k .instruction .code ≡ 9 → returned ≡ reasonBehind g k j
+      unfolding reasonBehind loadUse is
       returned-before r = cc (eq-eqb (k .instruction .code) 9 r)
 
-      pub nothing-before : (k .instruction .code ≡ 9 → ⊥) → 0 ≡ amount (reasonBehind asIn01 k j)
-      unfolding reasonBehind amount loadUse is
+      pub nothing-before : (k .instruction .code ≡ 9 → ⊥) → free ≡ reasonBehind g k j
+      unfolding reasonBehind loadUse is
       nothing-before r = cc (ne-eqb (k .instruction .code) 9 r)
 
-pub uncharged : (k : Kept) (j : Instruction) → k ≡ noneKept → 0 ≡ amount (reasonFrom asIn01 k j)
-unfolding reasonFrom amount
-uncharged k j h = cc
-
-pub charged : (k : Kept) (j : Instruction) (x : Retired) (n : ℕ) → k ≡ lastKept x → n ≡ amount (reasonBehind asIn01 x j) → n ≡ amount (reasonFrom asIn01 k j)
+pub uncharged : (g : Core) (k : Kept) (j : Instruction) → k ≡ noneKept → free ≡ reasonFrom g k j
 unfolding reasonFrom
-charged k j x n h p = cc
+uncharged g k j h = cc
+
+pub charged : (g : Core) (k : Kept) (j : Instruction) (x : Retired) (r : Reason) → k ≡ lastKept x → r ≡ reasonBehind g x j → r ≡ reasonFrom g k j
+unfolding reasonFrom
+charged g k j x r h p = cc
+
+-- the counts, by the reason
+pub none-counted : (t : Kinds) (r : Reason) → r ≡ free → t ≡ counted t r
+unfolding counted
+none-counted t r h = cc
+
+pub wait-counted : (t : Kinds) (r : Reason) → r ≡ waited
+    → record { loaduse = t .loaduse + 1; mispredict = t .mispredict; returned = t .returned } ≡ counted t r
+unfolding counted
+wait-counted t r h = cc
+
+pub guess-counted : (t : Kinds) (r : Reason) → r ≡ wronglyGuessed
+    → record { loaduse = t .loaduse; mispredict = t .mispredict + 2; returned = t .returned } ≡ counted t r
+unfolding counted
+guess-counted t r h = cc
+
+pub return-counted : (t : Kinds) (r : Reason) → r ≡ returned
+    → record { loaduse = t .loaduse; mispredict = t .mispredict; returned = t .returned + 3 } ≡ counted t r
+unfolding counted
+return-counted t r h = cc
 
 pub keeps : (x : Accessed) (k l : Kept) (b : Bool) → b ≡ isBad (x .status) → b ≡ true → l ≡ k → l ≡ keptBy x k
 unfolding keptBy
@@ -63,24 +85,16 @@ kept-now x k i b e h p = cc
 pub kept-afresh : (k : Kept) (r : Retired) (i : Instruction) → k ≡ lastKept r → i ≡ r .instruction → lastKept (record { instruction = i; holds = r .holds }) ≡ k
 kept-afresh k r i h p = rw (h, p)
 
--- an amount tells its reason
-counted-by : (t : Kinds) (r : Reason) → countedBy t (amount r) ≡ counted t r
-unfolding countedBy counted amount
-counted-by t free = refl
-counted-by t waited = refl
-counted-by t wronglyGuessed = refl
-counted-by t returned = refl
-
-pub only-a-cycle : (t : Tally) (w : StageW) (k : Kept) → w ≡ bubbleW → k ≡ t .kept
-    → record { last = t .last; retired = t .retired; cycles = t .cycles + 1; kinds = t .kinds; kept = k } ≡ tallyAfter t w
+pub only-a-cycle : (g : Core) (t : Tally) (w : StageW) (k : Kept) → w ≡ bubbleW → k ≡ t .kept
+    → record { last = t .last; retired = t .retired; cycles = t .cycles + 1; kinds = t .kinds; kept = k } ≡ tallyAfter g t w
 unfolding tallyAfter lastAfter retiredAfter kindsAfter keptAfter badInW
-only-a-cycle t w k h e = cc
+only-a-cycle g t w k h e = cc
 
-pub one-retired : (t : Tally) (w : StageW) (x : Accessed) (n : ℕ) (s : Kinds) (k : Kept) → w ≡ inW x → n ≡ amount (reasonFrom asIn01 (t .kept) (x .instruction))
-    → s ≡ countedBy (t .kinds) n → k ≡ keptBy x (t .kept)
-    → record { last = x .instruction .address; retired = t .retired + 1; cycles = t .cycles + 1; kinds = s; kept = k } ≡ tallyAfter t w
+pub one-retired : (g : Core) (t : Tally) (w : StageW) (x : Accessed) (r : Reason) (s : Kinds) (k : Kept) → w ≡ inW x → r ≡ reasonFrom g (t .kept) (x .instruction)
+    → s ≡ counted (t .kinds) r → k ≡ keptBy x (t .kept)
+    → record { last = x .instruction .address; retired = t .retired + 1; cycles = t .cycles + 1; kinds = s; kept = k } ≡ tallyAfter g t w
 unfolding tallyAfter lastAfter retiredAfter kindsAfter keptAfter badInW keptBy
-one-retired t w x n s k h p q u = cc (counted-by (t .kinds) (reasonFrom asIn01 (t .kept) (x .instruction)))
+one-retired g t w x r s k h p q u = cc
 
 pub none-retires : (w : StageW) → w ≡ bubbleW → false ≡ retires w
 unfolding retires

@@ -1,7 +1,9 @@
 // Retirement: the counts, the last address, the charges by kind, and the instruction kept for its follower's charge.
 use clocked::Kept;
 use clocked::Kinds;
+use clocked::Reason;
 use clocked::Retired;
+use clocked::Settings;
 use clocked::StageW;
 use isa::decoding::is_bad;
 use isa::decoding::loaded_target;
@@ -16,18 +18,9 @@ use stage::signals::meets_either;
 use stage::signals::mispredicted;
 ghost use mathlib.Core.Path.{_≡_};
 ghost use Prim.Native.Nat.{_<_};
-ghost use Rattle.clocked.specs.Prediction.{asIn01};
-ghost use Rattle.clocked.specs.Charges.{amount, reasonBehind, reasonFrom};
-ghost use Rattle.retiring.specs.Retiring.{countedBy, keptBy, retires as retiresOf, statusAfter, tallyAfter, Small};
-
-// The charges, by their reasons.
-const FREE: u8 = 0;
-
-const WAITED: u8 = 1;
-
-const WRONGLY_GUESSED: u8 = 2;
-
-const RETURNED: u8 = 3;
+ghost use Rattle.clocked.specs.Prediction.{coreOf};
+ghost use Rattle.clocked.specs.Charges.{reasonBehind, reasonFrom, counted as countedOf};
+ghost use Rattle.retiring.specs.Retiring.{keptBy, retires as retiresOf, statusAfter, tallyAfter, Small};
 
 // What a clock counts, and what it is counted by.
 pub struct Tally {
@@ -38,55 +31,55 @@ pub struct Tally {
     pub kept: Kept,
 }
 
-// The charge by the predecessor.
-fn charge_behind(k: Retired, j: Instruction) -> u8
-    ensures { λ r. ⌜ r ≡ amount (reasonBehind asIn01 k j) ⌝ }
+// Why an instruction is charged, by its predecessor.
+fn reason_behind(settings: Settings, k: Retired, j: Instruction) -> Reason
+    ensures { λ r. ⌜ r ≡ reasonBehind (coreOf settings) k j ⌝ }
 {
     let i = k.instruction;
     if meets_either(loaded_target(i), source_a(j), source_b(j)) {
-        return WAITED;
+        return Reason::Waited;
     }
-    if mispredicted(i, k.holds) & (i.function != 0) {
-        return WRONGLY_GUESSED;
+    if mispredicted(settings, i, k.holds) & (i.function != 0) {
+        return Reason::WronglyGuessed;
     }
     if i.code == RET {
-        return RETURNED;
+        return Reason::Returned;
     }
-    FREE
+    Reason::Free
 }
 
 // With none kept the charge is 0.
-fn charge_from(kept: Kept, j: Instruction) -> u8
-    ensures { λ r. ⌜ r ≡ amount (reasonFrom asIn01 kept j) ⌝ }
+fn reason_from(settings: Settings, kept: Kept, j: Instruction) -> Reason
+    ensures { λ r. ⌜ r ≡ reasonFrom (coreOf settings) kept j ⌝ }
 {
     match kept {
-        Kept::NoneKept => FREE,
-        Kept::LastKept(k) => charge_behind(k, j),
+        Kept::NoneKept => Reason::Free,
+        Kept::LastKept(k) => reason_behind(settings, k, j),
     }
 }
 
-// A charge tells its kind.
-fn count(kinds: Kinds, charge: u8) -> Kinds
+// "The cycle counts kept by kind sum the charges."
+fn count(kinds: Kinds, reason: Reason) -> Kinds
     requires { ⌜ (kinds .loaduse < 2000000) × (kinds .mispredict < 2000000) × (kinds .returned < 2000000) ⌝ }
-    ensures { λ r. ⌜ r ≡ countedBy kinds charge ⌝ }
+    ensures { λ r. ⌜ r ≡ countedOf kinds reason ⌝ }
 {
-    match charge {
-        WAITED => Kinds {
+    match reason {
+        Reason::Free => kinds,
+        Reason::Waited => Kinds {
             loaduse: kinds.loaduse + 1,
             mispredict: kinds.mispredict,
             returned: kinds.returned,
         },
-        WRONGLY_GUESSED => Kinds {
+        Reason::WronglyGuessed => Kinds {
             loaduse: kinds.loaduse,
             mispredict: kinds.mispredict + 2,
             returned: kinds.returned,
         },
-        RETURNED => Kinds {
+        Reason::Returned => Kinds {
             loaduse: kinds.loaduse,
             mispredict: kinds.mispredict,
             returned: kinds.returned + 3,
         },
-        _ => kinds,
     }
 }
 
@@ -140,9 +133,9 @@ pub fn status_after(w: StageW) -> Status
     }
 }
 
-pub fn counted(t: Tally, w: StageW) -> Tally
+pub fn counted(settings: Settings, t: Tally, w: StageW) -> Tally
     requires { ⌜ Small 2000000 t ⌝ }
-    ensures { λ r. ⌜ r ≡ tallyAfter t w ⌝ }
+    ensures { λ r. ⌜ r ≡ tallyAfter (coreOf settings) t w ⌝ }
 {
     let kinds = t.kinds;
     let kept = t.kept;
@@ -160,7 +153,7 @@ pub fn counted(t: Tally, w: StageW) -> Tally
                 last: i.address,
                 retired: t.retired + 1,
                 cycles: t.cycles + 1,
-                kinds: count(kinds, charge_from(kept, i)),
+                kinds: count(kinds, reason_from(settings, kept, i)),
                 kept: kept_by(x, kept),
             }
         }

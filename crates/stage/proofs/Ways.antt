@@ -1,18 +1,20 @@
 -- One law for each way out of a function, over variables for what its callees gave. Assumes nothing.
 use mathlib.Core.Path.{_≡_, refl}
-use mathlib.Core.Bool.{Bool, true, false, cond, not, _&&_, _||_}
+use mathlib.Core.Bool.{Bool, true, false, cond, not, _&&_, _||_, Bool·beq}
 use Prim.Native.Nat.{ℕ, _≤_, _<_}
 use lib.Dec.{eqb, ltb}
 use lib.ListN.{getD}
 use borrow.Author.Tests.{lt-ltb, le-ltb, eq-eqb, ne-eqb}
+use Rattle.clocked.specs.declared.Settings.{Settings}
 use Rattle.stage.specs.Types.{Codes, Instruction, Decoded, Executed, Accessed}
 use Rattle.stage.specs.Types.{StageD, bubbleD, inD, StageE, bubbleE, inE, StageM, bubbleM, inM, StageW, bubbleW, inW}
 use Rattle.machine.specs.Types.{isBad}
 use Rattle.machine.specs.Memory.{Memory, Registers, value, written}
 use Rattle.machine.specs.Table.{is}
 use Rattle.machine.specs.Stages.{execute, access, newCodes, newMemory, sourceA, sourceB, resultTarget, loadedTarget, turned, straight}
-use Rattle.clocked.specs.Prediction.{asIn01, guess, predictedNext, mispredicted, meets}
-use Rattle.clocked.specs.Pipeline.{afterE, afterM, codesAfter, memoryAfter, wrong, retInD, retInE, retInM, badInW, returnedTo, mended}
+use Rattle.clocked.specs.Prediction.{Core, coreOf, rule, guess, predictedNext, mispredicted, meets}
+use Rattle.clocked.specs.Pipeline.{afterE, afterM, codesAfter, memoryAfter, wrong, retInD, retInE, retInM, badInW, returnedTo}
+use Rattle.stage.specs.Addresses.{mendedBy}
 use Rattle.stage.specs.declared.forwarding.Targets.{Targets}
 use Rattle.stage.specs.declared.forwarding.Sources.{Sources}
 use Rattle.stage.specs.Forwarding.{noTargets, targetsOf, targetsM, targetsW, sourcesD, resultM, resultW, wordW, writtenBy, sourceBy, decodedBy}
@@ -58,18 +60,25 @@ meets-is t q = refl
 pub meets-one : (l a b : ℕ) (x y : Bool) → x ≡ meets l a → y ≡ meets l b → (x || y) ≡ (meets l a || meets l b)
 meets-one l a b x y p q = cc
 
-pub guessed : (i : Instruction) (h : Bool) → eqb (i .code) 7 && not h ≡ mispredicted asIn01 i h
-unfolding mispredicted guess is
-guessed i true = refl
-guessed i false = refl
+pub always-to-c : (s : Settings) (i : Instruction) → true ≡ guess (coreOf s) i
+unfolding guess rule
+always-to-c s i = go (eqb (i .function) 0)
+  where
+    go : (b : Bool) → true ≡ (b || true)
+    go true = refl
+    go false = refl
 
-pub none-wrong : (s : StageM) → s ≡ bubbleM → false ≡ wrong asIn01 s
-unfolding wrong
-none-wrong s h = cc
+pub guessed : (g : Core) (i : Instruction) (h b : Bool) → b ≡ guess g i → eqb (i .code) 7 && not (Bool·beq h b) ≡ mispredicted g i h
+unfolding mispredicted is
+guessed g i h b e = cc
 
-pub wrong-in : (s : StageM) (x : Executed) (b : Bool) → s ≡ inM x → b ≡ mispredicted asIn01 (x .instruction) (x .holds) → b ≡ wrong asIn01 s
+pub none-wrong : (g : Core) (s : StageM) → s ≡ bubbleM → false ≡ wrong g s
 unfolding wrong
-wrong-in s x b h p = cc
+none-wrong g s h = cc
+
+pub wrong-in : (g : Core) (s : StageM) (x : Executed) (b : Bool) → s ≡ inM x → b ≡ mispredicted g (x .instruction) (x .holds) → b ≡ wrong g s
+unfolding wrong
+wrong-in g s x b h p = cc
 
 pub no-ret-d : (d : StageD) → d ≡ bubbleD → false ≡ retInD d
 unfolding retInD
@@ -213,30 +222,29 @@ pub no-return : (w : StageW) (f : ℕ) (x : Accessed) → w ≡ inW x → (x .in
 unfolding returnedTo is
 no-return w f x h k = cc (ne-eqb (x .instruction .code) 9 k)
 
-pub no-m : (s : StageM) (f : ℕ) → s ≡ bubbleM → f ≡ mended asIn01 s f
-unfolding mended
-no-m s f h = cc
+pub no-m : (b : Bool) (s : StageM) (f : ℕ) → s ≡ bubbleM → f ≡ mendedBy b s f
+unfolding mendedBy
+no-m b s f h = cc
 
-pub mends : (s : StageM) (f v : ℕ) (x : Executed) (b : Bool) → s ≡ inM x → b ≡ mispredicted asIn01 (x .instruction) (x .holds) → b ≡ true
-    → v ≡ turned (x .instruction) (x .holds) → v ≡ mended asIn01 s f
-unfolding mended
-mends s f v x b h e t p = cc
+pub mends : (b : Bool) (s : StageM) (f v : ℕ) (x : Executed) → s ≡ inM x → b ≡ true → v ≡ turned (x .instruction) (x .holds) → v ≡ mendedBy b s f
+unfolding mendedBy
+mends b s f v x h t p = cc
 
-pub no-mend : (s : StageM) (f : ℕ) (x : Executed) (b : Bool) → s ≡ inM x → b ≡ mispredicted asIn01 (x .instruction) (x .holds) → b ≡ false
-    → f ≡ mended asIn01 s f
-unfolding mended
-no-mend s f x b h e t = cc
+pub no-mend : (b : Bool) (s : StageM) (f : ℕ) → b ≡ false → f ≡ mendedBy b s f
+unfolding mendedBy
+no-mend b bubbleM f h = refl
+no-mend b (inM x) f h = cc
 
-pub fetch-from : (s : StageM) (w : StageW) (f a b : ℕ) → a ≡ returnedTo w f → b ≡ mended asIn01 s a → b ≡ mended asIn01 s (returnedTo w f)
-fetch-from s w f a b p q = cc
+pub fetch-from : (c : Bool) (s : StageM) (w : StageW) (f a b : ℕ) → a ≡ returnedTo w f → b ≡ mendedBy c s a → b ≡ mendedBy c s (returnedTo w f)
+fetch-from c s w f a b p q = cc
 
-pub jump-next : (i : Instruction) (v : ℕ) → i .code ≡ 7 → v ≡ turned i true → v ≡ predictedNext asIn01 i
-unfolding predictedNext is guess
-jump-next i v h p = cc (eq-eqb (i .code) 7 h)
-
-pub straight-next : (i : Instruction) (v : ℕ) → (i .code ≡ 7 → ⊥) → v ≡ straight i → v ≡ predictedNext asIn01 i
+pub jump-next : (g : Core) (i : Instruction) (v : ℕ) (b : Bool) → i .code ≡ 7 → b ≡ guess g i → v ≡ turned i b → v ≡ predictedNext g i
 unfolding predictedNext is
-straight-next i v h p = cc (ne-eqb (i .code) 7 h)
+jump-next g i v b h e p = cc (eq-eqb (i .code) 7 h)
+
+pub straight-next : (g : Core) (i : Instruction) (v : ℕ) → (i .code ≡ 7 → ⊥) → v ≡ straight i → v ≡ predictedNext g i
+unfolding predictedNext is
+straight-next g i v h p = cc (ne-eqb (i .code) 7 h)
 
 -- CONTROLS
 pub goes-on : {A : Type 0} (b : Bool) (x y v : A) → b ≡ false → v ≡ y → v ≡ cond b x y

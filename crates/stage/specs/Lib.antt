@@ -1,2 +1,3 @@
 pub mod Types
 pub mod Forwarding
+pub mod Addresses

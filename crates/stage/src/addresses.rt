@@ -1,5 +1,6 @@
 // Where the next instruction is fetched from, and where the one after it is expected.
-use crate::signals::mispredicted;
+use crate::signals::guess;
+use clocked::Settings;
 use clocked::StageM;
 use clocked::StageW;
 use isa::executing::straight;
@@ -8,8 +9,9 @@ use machine::Instruction;
 use machine::JUMP;
 use machine::RET;
 ghost use mathlib.Core.Path.{_≡_};
-ghost use Rattle.clocked.specs.Prediction.{asIn01, predictedNext};
-ghost use Rattle.clocked.specs.Pipeline.{returnedTo, mended as mendedOf};
+ghost use Rattle.clocked.specs.Prediction.{coreOf, predictedNext};
+ghost use Rattle.clocked.specs.Pipeline.{returnedTo};
+ghost use Rattle.stage.specs.Addresses.{mendedBy};
 
 // The word that ret in W read, else the predicted address.
 fn returned_to(w: StageW, predicted: u64) -> u64
@@ -28,35 +30,35 @@ fn returned_to(w: StageW, predicted: u64) -> u64
     }
 }
 
-// The wrongly guessed jump in M goes before all else.
-fn mended(m: StageM, otherwise: u64) -> u64
-    ensures { λ r. ⌜ r ≡ mendedOf asIn01 m otherwise ⌝ }
+// The wrongly guessed jump in M goes before all else: wrong, found in E, says that M holds one.
+fn mended(wrong: bool, m: StageM, otherwise: u64) -> u64
+    ensures { λ r. ⌜ r ≡ mendedBy wrong m otherwise ⌝ }
 {
-    match m {
-        StageM::BubbleM => otherwise,
-        StageM::InM(x) => {
-            let i = x.instruction;
-            if mispredicted(i, x.holds) {
+    if wrong {
+        match m {
+            StageM::BubbleM => otherwise,
+            StageM::InM(x) => {
+                let i = x.instruction;
                 turned(i, x.holds)
-            } else {
-                otherwise
             }
         }
+    } else {
+        otherwise
     }
 }
 
-pub fn fetch_address(m: StageM, w: StageW, predicted: u64) -> u64
-    ensures { λ r. ⌜ r ≡ mendedOf asIn01 m (returnedTo w predicted) ⌝ }
+pub fn fetch_address(wrong: bool, m: StageM, w: StageW, predicted: u64) -> u64
+    ensures { λ r. ⌜ r ≡ mendedBy wrong m (returnedTo w predicted) ⌝ }
 {
-    mended(m, returned_to(w, predicted))
+    mended(wrong, m, returned_to(w, predicted))
 }
 
-pub fn predicted_next(i: Instruction) -> u64
-    ensures { λ r. ⌜ r ≡ predictedNext asIn01 i ⌝ }
+pub fn predicted_next(settings: Settings, i: Instruction) -> u64
+    ensures { λ r. ⌜ r ≡ predictedNext (coreOf settings) i ⌝ }
 {
-    let code = i.code;
-    match code {
-        JUMP => turned(i, true),
-        _ => straight(i),
+    if i.code == JUMP {
+        turned(i, guess(settings, i))
+    } else {
+        straight(i)
     }
 }

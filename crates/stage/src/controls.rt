@@ -3,6 +3,7 @@ use crate::addresses::predicted_next;
 use crate::forwarding::Targets;
 use crate::forwarding::no_targets;
 use crate::working::codes_after;
+use clocked::Settings;
 use clocked::StageD;
 use clocked::StageE;
 use clocked::StageM;
@@ -12,17 +13,17 @@ ghost use mathlib.Core.Path.{_≡_};
 ghost use mathlib.Core.Bool.{cond};
 ghost use Rattle.stage.specs.Types.{bubbleD, inD, bubbleE, bubbleM};
 ghost use Rattle.stage.specs.Forwarding.{noTargets};
-ghost use Rattle.clocked.specs.Prediction.{asIn01, predictedNext};
+ghost use Rattle.clocked.specs.Prediction.{coreOf, predictedNext};
 ghost use Rattle.clocked.specs.Pipeline.{codesAfter};
 
 // F is held for load-use and for ret.
-pub fn next_f(held: bool, predicted: u64, fetched: Instruction) -> u64
-    ensures { λ r. ⌜ r ≡ cond held predicted (predictedNext asIn01 fetched) ⌝ }
+pub fn next_f(settings: Settings, held: bool, predicted: u64, fetched: Instruction) -> u64
+    ensures { λ r. ⌜ r ≡ cond held predicted (predictedNext (coreOf settings) fetched) ⌝ }
 {
     if held {
         predicted
     } else {
-        predicted_next(fetched)
+        predicted_next(settings, fetched)
     }
 }
 

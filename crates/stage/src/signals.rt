@@ -1,4 +1,5 @@
 // The signals that the controls go by.
+use clocked::Settings;
 use clocked::StageD;
 use clocked::StageE;
 use clocked::StageM;
@@ -10,7 +11,7 @@ use machine::NONE;
 use machine::RET;
 ghost use mathlib.Core.Path.{_≡_};
 ghost use mathlib.Core.Bool.{_||_};
-ghost use Rattle.clocked.specs.Prediction.{asIn01, meets as meetsOf, mispredicted as mispredictedOf};
+ghost use Rattle.clocked.specs.Prediction.{coreOf, guess as guessOf, meets as meetsOf, mispredicted as mispredictedOf};
 ghost use Rattle.clocked.specs.Pipeline.{wrong as wrongOf, retInD, retInE, retInM, badInW};
 
 // Register 15 as a source matches nothing.
@@ -27,22 +28,30 @@ pub fn meets_either(loaded: u8, a: u8, b: u8) -> bool
     meets(loaded, a) | meets(loaded, b)
 }
 
-// Every jump is guessed taken, so a false condition is a misprediction.
-pub fn mispredicted(i: Instruction, holds: bool) -> bool
-    ensures { λ r. ⌜ r ≡ mispredictedOf asIn01 i holds ⌝ }
+// Whether a jump is guessed to go to C: document 01 has one rule, by which every jump is.
+pub fn guess(settings: Settings, i: Instruction) -> bool
+    ensures { λ r. ⌜ r ≡ guessOf (coreOf settings) i ⌝ }
 {
-    (i.code == JUMP) & !holds
+    true
+}
+
+// A jump whose condition came out otherwise than guessed.
+pub fn mispredicted(settings: Settings, i: Instruction, holds: bool) -> bool
+    ensures { λ r. ⌜ r ≡ mispredictedOf (coreOf settings) i holds ⌝ }
+{
+    let guessed = guess(settings, i);
+    (i.code == JUMP) & (holds != guessed)
 }
 
 // An executed jump that was guessed wrongly.
-pub fn wrong(m: StageM) -> bool
-    ensures { λ r. ⌜ r ≡ wrongOf asIn01 m ⌝ }
+pub fn wrong(settings: Settings, m: StageM) -> bool
+    ensures { λ r. ⌜ r ≡ wrongOf (coreOf settings) m ⌝ }
 {
     match m {
         StageM::BubbleM => false,
         StageM::InM(x) => {
             let i = x.instruction;
-            mispredicted(i, x.holds)
+            mispredicted(settings, i, x.holds)
         }
     }
 }

@@ -3,37 +3,52 @@ use Rattle.retiring.proofs.Ways.{only-a-cycle, one-retired}
 use borrow.Author.Needs.{needs}
 use Rattle.retiring.proofs.counted.Statement.{statement}
 use Rattle.retiring.proofs.counted.Tie as tie
+use Rattle.retiring.proofs.count.Reads as count-reads
+use Rattle.retiring.proofs.kept_by.Reads as kept-by-reads
+use Rattle.retiring.proofs.reason_from.Reads as reason-from-reads
+use Rattle.retiring.proofs.still_kept.Reads as still-kept-reads
 
+-- src/lib.rt:146:21
 enum-told : tie.Need-enum-told
 enum-told c = search needs
 
-add-t8 : tie.Need-add-t8
-add-t8 c = search needs
+-- src/lib.rt:146:21
+add-t9 : tie.Need-add-t9
+add-t9 c = search needs
 
+-- src/lib.rt:148:19
 still-kept-requires : tie.Need-still-kept-requires
 still-kept-requires c κs = search needs
 
+-- src/lib.rt:150:21
 enum-known-w : tie.Need-enum-known-w
 enum-known-w c = search needs
 
-add-t10 : tie.Need-add-t10
-add-t10 c = search needs
-
+-- src/lib.rt:154:26
 add-t11 : tie.Need-add-t11
 add-t11 c = search needs
 
-charge-from-requires : tie.Need-charge-from-requires
-charge-from-requires c κs = search needs
+-- src/lib.rt:155:25
+add-t12 : tie.Need-add-t12
+add-t12 c = search needs
 
+-- src/lib.rt:156:37
+reason-from-requires : tie.Need-reason-from-requires
+reason-from-requires c κs = search needs
+
+-- src/lib.rt:156:24
 count-requires : tie.Need-count-requires
 count-requires c κs = search needs
 
+-- src/lib.rt:157:23
 kept-by-requires : tie.Need-kept-by-requires
 kept-by-requires c κs = search needs
 
+-- src/lib.rt:136:1
 returns : tie.Need-returns
 returns c = search (needs, only-a-cycle)
 
+-- src/lib.rt:136:1
 returns-2 : tie.Need-returns-2
 returns-2 c = search (needs, one-retired)
 
@@ -42,12 +57,12 @@ counted-spec =
     tie.close
     (tie.spec
     enum-told
-    add-t8
+    add-t9
     still-kept-requires
     enum-known-w
-    add-t10
     add-t11
-    charge-from-requires
+    add-t12
+    reason-from-requires
     count-requires
     kept-by-requires
     returns

@@ -1,8 +1,8 @@
 -- One law of `Ways` for each reason, in document 01's order: the load, the jump not taken, the ret, nothing.
 use Rattle.retiring.proofs.Ways.{loaded-before, jumped-before, returned-before, nothing-before}
 use borrow.Author.Needs.{needs}
-use Rattle.retiring.proofs.charge_behind.Statement.{statement}
-use Rattle.retiring.proofs.charge_behind.Tie as tie
+use Rattle.retiring.proofs.reason_behind.Statement.{statement}
+use Rattle.retiring.proofs.reason_behind.Tie as tie
 
 loaded-target-requires : tie.Need-loaded-target-requires
 loaded-target-requires c κs = search needs
@@ -31,8 +31,8 @@ returns-3 c = search (needs, returned-before)
 returns-4 : tie.Need-returns-4
 returns-4 c = search (needs, nothing-before)
 
-pub charge-behind-spec : {M : Type 1} → statement M
-charge-behind-spec =
+pub reason-behind-spec : {M : Type 1} → statement M
+reason-behind-spec =
     tie.close
     (tie.spec
     loaded-target-requires
