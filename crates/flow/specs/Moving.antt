@@ -1,4 +1,4 @@
--- The stages' values through one clock, in the words of machine's Pipeline: x is E's instruction after execution, y M's after its access.
+-- The stages' values through one clock, in the words of clocked's Pipeline: x is E's instruction after execution, y M's after its access.
 use Prim.Native.Nat.{ℕ}
 use mathlib.Core.Bool.{Bool, cond, _||_}
 use Rattle.machine.specs.declared.Instruction.{Instruction}
@@ -12,7 +12,7 @@ use Rattle.clocked.specs.declared.StageW.{StageW}
 use Rattle.machine.specs.Memory.{Memory, Registers, value}
 use Rattle.machine.specs.Fetch.{fetch}
 use Rattle.machine.specs.Stages.{decode}
-use Rattle.clocked.specs.Prediction.{asIn01, predictedNext, meets}
+use Rattle.clocked.specs.Prediction.{Core, predictedNext, meets}
 use Rattle.clocked.specs.Pipeline.{afterE, afterM, codesAfter, pastResult, pastBoth, waitsBehind, wrong, retInD, retInE, retInM, badInW, returnedTo, mended}
 use Rattle.stage.specs.declared.forwarding.Targets.{Targets}
 use Rattle.stage.specs.declared.forwarding.Sources.{Sources}
@@ -21,25 +21,25 @@ use Rattle.flow.specs.declared.Flow.{Flow}
 use Rattle.flow.specs.declared.Ahead.{Ahead}
 use Rattle.flow.specs.declared.Signals.{Signals}
 
--- the targets of what stands in M and in W
-unfoldable pub aheadOf : StageM → StageW → Ahead
-aheadOf m w = record { m = targetsM m; w = targetsW w }
+-- what is carried of M and W: their targets, and whether M holds a wrongly guessed jump
+unfoldable pub aheadOf : Core → StageM → StageW → Ahead
+aheadOf g m w = record { m = targetsM m; w = targetsW w; wrong = wrong g m }
 
 -- b says that D waits
-unfoldable pub signalsWith : Bool → StageD → StageE → StageM → StageM → StageW → Signals
-signalsWith b d e m x y = record { waits = b; mispredicts = wrong asIn01 x; returns = retInD d || (retInE e || retInM m); fails = badInW y }
+unfoldable pub signalsWith : Core → Bool → StageD → StageE → StageM → StageM → StageW → Signals
+signalsWith g b d e m x y = record { waits = b; mispredicts = wrong g x; returns = retInD d || (retInE e || retInM m); fails = badInW y }
 
 -- document 01's four signals
-unfoldable pub signalsOf : StageD → StageE → StageM → StageM → StageW → Signals
-signalsOf d e m x y = signalsWith (waitsBehind asIn01 e d) d e m x y
+unfoldable pub signalsOf : Core → StageD → StageE → StageM → StageM → StageW → Signals
+signalsOf g d e m x y = signalsWith g (waitsBehind g e d) d e m x y
 
 -- by D's sources s and the targets t of what stood in E, as the code tests it
-unfoldable pub signalsBy : Sources → Targets → StageD → StageE → StageM → StageM → StageW → Signals
-signalsBy s t d e m x y = signalsWith (meets (t .loaded) (s .a) || meets (t .loaded) (s .b)) d e m x y
+unfoldable pub signalsBy : Core → Sources → Targets → StageD → StageE → StageM → StageM → StageW → Signals
+signalsBy g s t d e m x y = signalsWith g (meets (t .loaded) (s .a) || meets (t .loaded) (s .b)) d e m x y
 
 -- what is fetched in a clock that began with f for the predicted address
-unfoldable pub fetchedIn : StageM → StageW → ℕ → Memory → Instruction
-fetchedIn m w f bytes = fetch bytes (mended asIn01 m (returnedTo w f))
+unfoldable pub fetchedIn : Core → StageM → StageW → ℕ → Memory → Instruction
+fetchedIn g m w f bytes = fetch bytes (mended g m (returnedTo w f))
 
 -- document 01's order of six: result in E, word and result in M, word and result in W, register file
 unfoldable pub sourceIn : StageM → StageW → StageW → Registers → ℕ → ℕ
@@ -51,22 +51,22 @@ decodedIn bubbleD x y w r = bubbleE
 decodedIn (inD i) x y w r = inE (decode i (sourceIn x y w r))
 
 -- the controls at the end of a clock, on the signals s, with i fetched and z decoded
-unfoldable pub shiftedOf : Flow → Signals → StageM → StageW → Instruction → StageE → Flow
-shiftedOf f s x y i z =
+unfoldable pub shiftedOf : Core → Flow → Signals → StageM → StageW → Instruction → StageE → Flow
+shiftedOf g f s x y i z =
     let m = cond (s .fails) bubbleM x in
     record {
-      predicted = cond (s .waits || s .returns) (f .predicted) (predictedNext asIn01 i);
+      predicted = cond (s .waits || s .returns) (f .predicted) (predictedNext g i);
       d = cond (s .mispredicts) bubbleD (cond (s .waits) (f .d) (cond (s .returns) bubbleD (inD i)));
       e = cond (s .mispredicts || s .waits) bubbleE z;
       m = m;
       w = y;
       codes = cond (s .fails) (f .codes) (codesAfter (f .e) (f .codes));
-      targets = aheadOf m y;
+      ahead = aheadOf g m y;
     }
 
 -- a clock in which no bad status stands in W, from registers r and memory m as it began
-unfoldable pub flowAfter : Flow → Registers → Memory → Flow
-flowAfter f r m =
+unfoldable pub flowAfter : Core → Flow → Registers → Memory → Flow
+flowAfter g f r m =
     let x = afterE (f .e) (f .codes) in
     let y = afterM (f .m) m in
-    shiftedOf f (signalsOf (f .d) (f .e) (f .m) x y) x y (fetchedIn (f .m) (f .w) (f .predicted) m) (decodedIn (f .d) x y (f .w) r)
+    shiftedOf g f (signalsOf g (f .d) (f .e) (f .m) x y) x y (fetchedIn g (f .m) (f .w) (f .predicted) m) (decodedIn (f .d) x y (f .w) r)

@@ -1,4 +1,5 @@
 // One clock of the stages: what stands in F to W, and the codes, with registers and memory beside them.
+use clocked::Settings;
 use clocked::StageD;
 use clocked::StageE;
 use clocked::StageM;
@@ -29,11 +30,14 @@ use stage::working::memory_after;
 use stage::working::registers_after;
 ghost use mathlib.Core.Path.{_≡_};
 ghost use lib.ListN.{length};
-ghost use Rattle.clocked.specs.Pipeline.{memoryAfter, registersAfter};
+ghost use Rattle.machine.specs.Fetch.{fetch as fetchOf};
+ghost use Rattle.clocked.specs.Prediction.{coreOf};
+ghost use Rattle.clocked.specs.Pipeline.{memoryAfter, registersAfter, returnedTo};
+ghost use Rattle.stage.specs.Addresses.{mendedBy};
 ghost use Rattle.stage.specs.Forwarding.{sourcesD, targetsM, targetsW};
-ghost use Rattle.flow.specs.Moving.{aheadOf, signalsBy, fetchedIn, decodedIn, flowAfter};
+ghost use Rattle.flow.specs.Moving.{aheadOf, signalsBy, decodedIn, flowAfter};
 
-// F to W with the codes: what a clock works on, without registers and counts. Targets are worked out in E and carried beside M and W.
+// F to W with the codes: what a clock works on, without registers and counts.
 pub struct Flow {
     pub predicted: u64,
     pub d: StageD,
@@ -41,13 +45,14 @@ pub struct Flow {
     pub m: StageM,
     pub w: StageW,
     pub codes: Codes,
-    pub targets: Ahead,
+    pub ahead: Ahead,
 }
 
-// The targets of what stands in M and in W.
+// What is worked out in E and carried on from there: the targets of what stands in M and in W, and whether M holds a wrongly guessed jump.
 pub struct Ahead {
     pub m: Targets,
     pub w: Targets,
+    pub wrong: bool,
 }
 
 // What the controls go by.
@@ -59,6 +64,7 @@ pub struct Signals {
 }
 
 fn signals_now(
+    settings: Settings,
     sources: Sources,
     targets: Targets,
     d: StageD,
@@ -67,20 +73,21 @@ fn signals_now(
     executed: StageM,
     accessed: StageW,
 ) -> Signals
-    ensures { λ r. ⌜ r ≡ signalsBy sources targets d e m executed accessed ⌝ }
+    ensures { λ r. ⌜ r ≡ signalsBy (coreOf settings) sources targets d e m executed accessed ⌝ }
 {
     Signals {
         waits: meets_either(targets.loaded, sources.a, sources.b),
-        mispredicts: wrong(executed),
+        mispredicts: wrong(settings, executed),
         returns: ret_on_the_way(d, e, m),
         fails: bad_in_w(accessed),
     }
 }
 
-fn fetch_now(m: StageM, w: StageW, predicted: u64, memory: &[u8]) -> Instruction
-    ensures { λ r. ⌜ r ≡ fetchedIn m w predicted (now (memory .entry)) ⌝ }
+// What is fetched; wrong says that the jump in M was guessed wrongly.
+fn fetch_now(wrong: bool, m: StageM, w: StageW, predicted: u64, memory: &[u8]) -> Instruction
+    ensures { λ r. ⌜ r ≡ fetchOf (now (memory .entry)) (mendedBy wrong m (returnedTo w predicted)) ⌝ }
 {
-    instruction_at(memory, fetch_address(m, w, predicted))
+    instruction_at(memory, fetch_address(wrong, m, w, predicted))
 }
 
 // W writes its registers before decode reads them, so that nothing of W's has to be forwarded.
@@ -105,9 +112,14 @@ fn write_and_decode(
 }
 
 // A clock in which no bad status stands in W: memory is read before its write.
-pub fn advance(flow: Flow, registers: &mut [u64; REGISTERS], memory: &mut [u8]) -> Flow
-    requires { ⌜ (length (now registers) ≡ 15) × (flow .targets ≡ aheadOf (flow .m) (flow .w)) ⌝ }
-    ensures { λ r. ⌜ (r ≡ flowAfter flow (now (registers .entry)) (now (memory .entry)))
+pub fn advance(
+    settings: Settings,
+    flow: Flow,
+    registers: &mut [u64; REGISTERS],
+    memory: &mut [u8],
+) -> Flow
+    requires { ⌜ (length (now registers) ≡ 15) × (flow .ahead ≡ aheadOf (coreOf settings) (flow .m) (flow .w)) ⌝ }
+    ensures { λ r. ⌜ (r ≡ flowAfter (coreOf settings) flow (now (registers .entry)) (now (memory .entry)))
         × (now (registers .exit) ≡ registersAfter (flow .w) (now (registers .entry)))
         × (now (memory .exit) ≡ memoryAfter (flow .m) (now (memory .entry))) ⌝ }
 {
@@ -116,27 +128,28 @@ pub fn advance(flow: Flow, registers: &mut [u64; REGISTERS], memory: &mut [u8]) 
     let m = flow.m;
     let w = flow.w;
     let codes = flow.codes;
-    let ahead = flow.targets;
+    let ahead = flow.ahead;
     let in_m = ahead.m;
     let executed = after_e(e, codes);
     let accessed = after_m(m, memory);
-    let fetched = fetch_now(m, w, flow.predicted, memory);
+    let fetched = fetch_now(ahead.wrong, m, w, flow.predicted, memory);
     let targets = targets_m(executed);
     let sources = sources_d(d);
     let decoded = write_and_decode(d, sources, targets, executed, accessed, w, ahead, registers);
     memory_after(m, memory);
-    let s = signals_now(sources, targets, d, e, m, executed, accessed);
+    let s = signals_now(settings, sources, targets, d, e, m, executed, accessed);
     let carried = Ahead {
         m: next_targets(s.fails, targets),
         w: in_m,
+        wrong: s.mispredicts & !s.fails,
     };
     Flow {
-        predicted: next_f(s.waits | s.returns, flow.predicted, fetched),
+        predicted: next_f(settings, s.waits | s.returns, flow.predicted, fetched),
         d: next_d(s.mispredicts, s.waits, s.returns, d, fetched),
         e: next_e(s.mispredicts | s.waits, decoded),
         m: next_m(s.fails, executed),
         w: accessed,
         codes: next_codes(s.fails, e, codes),
-        targets: carried,
+        ahead: carried,
     }
 }
