@@ -3,6 +3,7 @@ use mathlib.Core.Path.{_≡_, refl, _∙_}
 use mathlib.Core.Bool.{true, false}
 use mathlib.Core.List.{List, _++_}
 use Prim.Native.Nat.{ℕ}
+use Rattle.clocked.specs.declared.Settings.{Settings}
 use Rattle.clocked.specs.declared.Pipeline.{Pipeline}
 use Rattle.machine.specs.declared.Status.{Status}
 use Rattle.clocked.specs.declared.StageD.{StageD}
@@ -11,7 +12,7 @@ use Rattle.clocked.specs.declared.StageW.{StageW}
 use Rattle.clocked.specs.declared.StageW.the-variants.{BubbleW as bubbleW, InW as inW}
 use Rattle.machine.specs.Types.{isBad}
 use Rattle.machine.specs.Memory.{Memory, Registers}
-use Rattle.clocked.specs.Prediction.{asIn01}
+use Rattle.clocked.specs.Prediction.{coreOf}
 use Rattle.clocked.specs.Pipeline.{Piped, afterE, afterM, source, sourceM, sourceW, decodedD, badInW, memoryAfter, registersAfter}
 use Rattle.clocked.specs.Pipeline.{lastAfter, retiredAfter, kindsAfter, logged, advanced, stoppedIn, clockBy, clock, waits}
 use Rattle.clocked.specs.Pipeline.{mispredicts, returns, fails, fetchAddress, fetchedNow, nextF, nextD, nextE, nextM, nextCodes}
@@ -32,38 +33,38 @@ bad-after bubbleW = refl
 bad-after (inW w) = refl
 
 -- the state after a clock with w in W, whose stages, registers and memory become f, r and m
-abbrev pub after : Tally → List ℕ → List ℕ → StageW → Flow → Registers → Memory → Piped
-after t es ys w f r m =
-    let t′ = tallyAfter t w in
-    piped (whole f t′ (statusAfter w) r) m (es ++ logged w (t′ .last)) (ys ++ logged w (t′ .cycles))
+abbrev pub after : Settings → Tally → List ℕ → List ℕ → StageW → Flow → Registers → Memory → Piped
+after s t es ys w f r m =
+    let t′ = tallyAfter (coreOf s) t w in
+    piped (whole s f t′ (statusAfter w) r) m (es ++ logged w (t′ .last)) (ys ++ logged w (t′ .cycles))
 
 -- the flow's order of sources is that of the definitions
-decoded-same : (f : Flow) (t : Tally) (x : Status) (r : Registers) (m : Memory) (es ys : List ℕ) (d : StageD)
-    → decodedIn d (afterE (f .e) (f .codes)) (afterM (f .m) m) (f .w) r ≡ decodedD (piped (whole f t x r) m es ys) d
+decoded-same : (s : Settings) (f : Flow) (t : Tally) (x : Status) (r : Registers) (m : Memory) (es ys : List ℕ) (d : StageD)
+    → decodedIn d (afterE (f .e) (f .codes)) (afterM (f .m) m) (f .w) r ≡ decodedD (piped (whole s f t x r) m es ys) d
 unfolding decodedIn decodedD sourceIn source sourceM sourceW whole
-decoded-same f t x r m es ys bubbleD = refl
-decoded-same f t x r m es ys (inD i) = refl
+decoded-same s f t x r m es ys bubbleD = refl
+decoded-same s f t x r m es ys (inD i) = refl
 
-module _ (f : Flow) (t : Tally) (x : Status) (r : Registers) (m : Memory) (es ys : List ℕ) where
+module _ (s : Settings) (f : Flow) (t : Tally) (x : Status) (r : Registers) (m : Memory) (es ys : List ℕ) where
   abbrev now : Piped
-  now = piped (whole f t x r) m es ys
+  now = piped (whole s f t x r) m es ys
 
-  stops-by : (w : StageW) → badInW w ≡ true → clockBy asIn01 now w ≡ after t es ys w f r m
+  stops-by : (w : StageW) → badInW w ≡ true → clockBy (coreOf s) now w ≡ after s t es ys w f r m
   unfolding clockBy badInW stoppedIn whole tallyAfter statusAfter lastAfter retiredAfter kindsAfter logged
   stops-by bubbleW b = cc
   stops-by (inW w) b = rw b
 
-  goes-by : (w : StageW) → badInW w ≡ false → clockBy asIn01 now w ≡ advanced asIn01 now
+  goes-by : (w : StageW) → badInW w ≡ false → clockBy (coreOf s) now w ≡ advanced (coreOf s) now
   unfolding clockBy badInW
   goes-by bubbleW b = refl
   goes-by (inW w) b = rw b
 
-  pub stops : isBad x ≡ false → badInW (f .w) ≡ true → clock asIn01 now ≡ after t es ys (f .w) f r m
+  pub stops : isBad x ≡ false → badInW (f .w) ≡ true → clock (coreOf s) now ≡ after s t es ys (f .w) f r m
   unfolding clock whole
   stops h b = rw h (stops-by (f .w) b)
 
   pub goes : isBad x ≡ false → badInW (f .w) ≡ false
-      → clock asIn01 now ≡ after t es ys (f .w) (flowAfter f r m) (registersAfter (f .w) r) (memoryAfter (f .m) m)
+      → clock (coreOf s) now ≡ after s t es ys (f .w) (flowAfter (coreOf s) f r m) (registersAfter (f .w) r) (memoryAfter (f .m) m)
   unfolding clock advanced whole tallyAfter flowAfter shiftedOf signalsOf signalsWith fetchedIn
       waits mispredicts returns fails fetchAddress fetchedNow nextF nextD nextE nextM nextCodes
-  goes h b = rw h (goes-by (f .w) b ∙ rw (b, sound (statusAfter (f .w)) (bad-after (f .w) ∙ b), decoded-same f t x r m es ys (f .d)))
+  goes h b = rw h (goes-by (f .w) b ∙ rw (b, sound (statusAfter (f .w)) (bad-after (f .w) ∙ b), decoded-same s f t x r m es ys (f .d)))

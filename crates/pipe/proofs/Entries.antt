@@ -10,7 +10,7 @@ use borrow.Author.Tests.{eq-eqb, ne-eqb, ltb-false}
 use Rattle.clocked.specs.declared.Pipeline.{Pipeline}
 use Rattle.answers.specs.Logs.{laid-none}
 use Rattle.machine.specs.Memory.{Memory}
-use Rattle.clocked.specs.Prediction.{asIn01}
+use Rattle.clocked.specs.Prediction.{coreOf}
 use Rattle.clocked.specs.Pipeline.{pipedOf, clocks}
 use Rattle.machine.specs.Runs.{sizeRefused, budgetRefused, logRefused}
 use Rattle.clocked.specs.PipeRuns.{refusedInD, refusedInE, refusedInM, refusedInW, refusedKept, countsRefused}
@@ -25,7 +25,7 @@ module _ (short : Bool) (k : Pipeline) (m : Memory) (budget : ℕ) (a y : List �
   unfolding answerBy
   refused h = cc (ne-eqb n 0 h)
 
-  pub not-refused : n ≡ 0 → (p : Pipeline) (m′ a′ y′ : List ℕ) → pipeAnswer 0 p m′ a′ y′ ≡ pipeDone (clocks asIn01 (pipedOf k m) budget) a y
+  pub not-refused : n ≡ 0 → (p : Pipeline) (m′ a′ y′ : List ℕ) → pipeAnswer 0 p m′ a′ y′ ≡ pipeDone (clocks (coreOf (k .settings)) (pipedOf k m) budget) a y
       → pipeAnswer 0 p m′ a′ y′ ≡ answerBy short k m budget a y
   unfolding answerBy
   not-refused h p m′ a′ y′ d = cc (eq-eqb n 0 h)
@@ -45,7 +45,7 @@ accepted short k size budget n e h =
 
 -- WITH LOGS AND WITHOUT
 by-logs : (logs : List ℕ) (short : Bool) (k : Pipeline) (m : Memory) (budget : ℕ) (a y : List ℕ) → short ≡ logRefused logs budget
-    → answerBy short k m budget a y ≡ pipeBy asIn01 logs k m budget a y
+    → answerBy short k m budget a y ≡ pipeBy logs k m budget a y
 unfolding answerBy refusalBy pipeBy pipeRefusal
 by-logs logs short k m budget a y e = rw e
 
@@ -56,7 +56,7 @@ or-none false false = refl
 
 pub with-logs : (k : Pipeline) (m : Memory) (budget : ℕ) (a y : List ℕ) (t : PipeAnswer)
     → t ≡ answerBy (ltb (length a) budget || ltb (length y) budget) k m budget a y
-    → t ≡ pipeRun asIn01 k m budget a y
+    → t ≡ pipeRun k m budget a y
 unfolding pipeRun logRefused
 with-logs k m budget a y t e = e ∙ by-logs (length a ∷ length y ∷ []) _ k m budget a y (or-none (ltb (length a) budget) (ltb (length y) budget))
 
@@ -65,15 +65,15 @@ abbrev bare : PipeAnswer → PipeAnswer
 bare t = pipeAnswer (t .number) (t .pipeline) (t .memory) [] []
 
 pub without-logs : (k : Pipeline) (m : Memory) (budget n : ℕ) (p : Pipeline) (m′ a′ y′ : List ℕ) → pipeAnswer n p m′ a′ y′ ≡ answerBy false k m budget [] []
-    → pipeAnswer n p m′ [] [] ≡ pipeRunUnlogged asIn01 k m budget
+    → pipeAnswer n p m′ [] [] ≡ pipeRunUnlogged k m budget
 unfolding pipeRunUnlogged logRefused answerBy pipeDone
 without-logs k m budget n p m′ a′ y′ e = ap bare e ∙ (go (eqb (refusalBy false k (length m) budget) 0) ∙ by-logs [] false k m budget [] [] refl)
   where
-    go : (b : Bool) → bare (cond b (pipeDone (clocks asIn01 (pipedOf k m) budget) [] []) (pipeAnswer (refusalBy false k (length m) budget) k m [] []))
-        ≡ cond b (pipeDone (clocks asIn01 (pipedOf k m) budget) [] []) (pipeAnswer (refusalBy false k (length m) budget) k m [] [])
+    go : (b : Bool) → bare (cond b (pipeDone (clocks (coreOf (k .settings)) (pipedOf k m) budget) [] []) (pipeAnswer (refusalBy false k (length m) budget) k m [] []))
+        ≡ cond b (pipeDone (clocks (coreOf (k .settings)) (pipedOf k m) budget) [] []) (pipeAnswer (refusalBy false k (length m) budget) k m [] [])
     go true = simp laid-none
     go false = refl
 
-pub one-clock : (k : Pipeline) (m : Memory) (t : PipeAnswer) → t ≡ pipeRunUnlogged asIn01 k m 1 → t ≡ pipeClock asIn01 k m
+pub one-clock : (k : Pipeline) (m : Memory) (t : PipeAnswer) → t ≡ pipeRunUnlogged k m 1 → t ≡ pipeClock k m
 unfolding pipeClock
 one-clock k m t e = e

@@ -12,6 +12,7 @@ use Rattle.clock_laws.specs.Registers.{length-after-w}
 use Rattle.laws.specs.Tests.{neither}
 use Rattle.clock_laws.specs.Stops.{stays}
 use Rattle.answers.specs.Logs.{laid-more, laid-length}
+use Rattle.clocked.specs.declared.Settings.{Settings}
 use Rattle.clocked.specs.declared.Pipeline.{Pipeline}
 use Rattle.machine.specs.declared.Status.{Status}
 use Rattle.clocked.specs.declared.Kinds.{Kinds}
@@ -20,7 +21,7 @@ use Rattle.clocked.specs.declared.StageW.{StageW}
 use Rattle.clocked.specs.declared.StageW.the-variants.{BubbleW as bubbleW, InW as inW}
 use Rattle.machine.specs.Types.{isBad}
 use Rattle.machine.specs.Memory.{Memory}
-use Rattle.clocked.specs.Prediction.{asIn01}
+use Rattle.clocked.specs.Prediction.{Core, coreOf}
 use Rattle.clocked.specs.declared.Reason.{Reason}
 use Rattle.clocked.specs.declared.Reason.the-variants.{Free as free, Waited as waited, WronglyGuessed as wronglyGuessed, Returned as returned}
 use Rattle.clocked.specs.Charges.{counted, reasonFrom}
@@ -57,20 +58,20 @@ counted-small n t waited h = record { loaduse = omega arith; mispredict = omega 
 counted-small n t wronglyGuessed h = record { loaduse = omega arith; mispredict = omega arith; returned = omega arith }
 counted-small n t returned h = record { loaduse = omega arith; mispredict = omega arith; returned = omega arith }
 
-kinds-small : (n : ℕ) (w : StageW) (k : Kept) (t : Kinds) → Three n t → Three (n + 3) (kindsAfter asIn01 w k t)
+kinds-small : (g : Core) (n : ℕ) (w : StageW) (k : Kept) (t : Kinds) → Three n t → Three (n + 3) (kindsAfter g w k t)
 unfolding kindsAfter
-kinds-small n bubbleW k t h = record { loaduse = omega arith; mispredict = omega arith; returned = omega arith }
-kinds-small n (inW w) k t h = counted-small n t (reasonFrom asIn01 k (w .instruction)) h
+kinds-small g n bubbleW k t h = record { loaduse = omega arith; mispredict = omega arith; returned = omega arith }
+kinds-small g n (inW w) k t h = counted-small n t (reasonFrom g k (w .instruction)) h
 
 retired-small : (w : StageW) (k n : ℕ) → k < n → retiredAfter w k < n + 3
 unfolding retiredAfter
 retired-small bubbleW k n h = omega arith
 retired-small (inW w) k n h = omega arith
 
-pub tally-small : (n : ℕ) (t : Tally) (w : StageW) → Small n t → Small (n + 3) (tallyAfter t w)
+pub tally-small : (g : Core) (n : ℕ) (t : Tally) (w : StageW) → Small n t → Small (n + 3) (tallyAfter g t w)
 unfolding tallyAfter
-tally-small n t w h =
-    let three = kinds-small n w (t .kept) (t .kinds) (record { loaduse = h .loaduse; mispredict = h .mispredict; returned = h .returned }) in
+tally-small g n t w h =
+    let three = kinds-small g n w (t .kept) (t .kinds) (record { loaduse = h .loaduse; mispredict = h .mispredict; returned = h .returned }) in
     record {
       retired = retired-small w (t .retired) n (h .retired);
       cycles = omega (arith, h .cycles);
@@ -98,21 +99,21 @@ small-enough n t h s = record { retired = omega arith; cycles = omega arith; loa
 
 -- FROM CLOCK TO CLOCK
 -- after n clocks of a run from p₀ that began with first retirements and the logs a₀ and y₀
-pub record Here (p₀ : Piped) (first : ℕ) (a₀ y₀ : List ℕ) (n : ℕ) (f : Flow) (t : Tally) (x : Status) (r m a y : List ℕ) : Type 0 where
+pub record Here (s : Settings) (p₀ : Piped) (first : ℕ) (a₀ y₀ : List ℕ) (n : ℕ) (f : Flow) (t : Tally) (x : Status) (r m a y : List ℕ) : Type 0 where
   pub entries : List ℕ
   pub times : List ℕ
-  pub state : clocks asIn01 p₀ n ≡ piped (whole f t x r) m entries times
+  pub state : clocks (coreOf s) p₀ n ≡ piped (whole s f t x r) m entries times
   pub addresses : a ≡ laid entries a₀
   pub cycles : y ≡ laid times y₀
   pub entered : first + length entries ≡ t .retired
   pub timed : first + length times ≡ t .retired
   pub small : Small (262146 + n * 3) t
-  pub ahead : f .ahead ≡ aheadOf (f .m) (f .w)
+  pub ahead : f .ahead ≡ aheadOf (coreOf s) (f .m) (f .w)
   pub long : length r ≡ 15
 
 pub here-first : {f : Flow} {t : Tally} {x : Status} {r m a y : List ℕ} (k : Pipeline) → f ≡ flowOf k → length r ≡ 15 → t ≡ tallyOf k → countsRefused k ≡ false
     → k .cycles ≤ pipeLimit
-    → Here (pipedOf (whole f t x r) m) (k .retired) a y 0 f t x r m a y
+    → Here (k .settings) (pipedOf (whole (k .settings) f t x r) m) (k .retired) a y 0 f t x r m a y
 unfolding clocks laid flowOf tallyOf
 here-first k i l e h c =
     record {
@@ -129,12 +130,12 @@ here-first k i l e h c =
     }
 
 -- one clock more of a machine that has not stopped; b, q and v are what the code found bad, retiring and bad in W
-module _ {p₀ : Piped} {first : ℕ} {a₀ y₀ : List ℕ} {n : ℕ} {f : Flow} {t t′ : Tally} {x x′ : Status} {r m a y a′ y′ : List ℕ} {b q v : Bool}
-    (h : Here p₀ first a₀ y₀ n f t x r m a y) (eb : b ≡ isBad x) (good : b ≡ false) (eq : q ≡ retires (f .w)) (et : t′ ≡ tallyAfter t (f .w))
+module _ {s : Settings} {p₀ : Piped} {first : ℕ} {a₀ y₀ : List ℕ} {n : ℕ} {f : Flow} {t t′ : Tally} {x x′ : Status} {r m a y a′ y′ : List ℕ} {b q v : Bool}
+    (h : Here s p₀ first a₀ y₀ n f t x r m a y) (eb : b ≡ isBad x) (good : b ≡ false) (eq : q ≡ retires (f .w)) (et : t′ ≡ tallyAfter (coreOf s) t (f .w))
     (ex : x′ ≡ statusAfter (f .w))
     (ea : a′ ≡ noted q (t .retired - first) (t′ .last) a) (ey : y′ ≡ noted q (t .retired - first) (t′ .cycles) y) (ev : v ≡ badInW (f .w)) where
-  here-after : (f′ : Flow) (r′ m′ : List ℕ) → clock asIn01 (piped (whole f t x r) m (h .entries) (h .times)) ≡ after t (h .entries) (h .times) (f .w) f′ r′ m′
-      → f′ .ahead ≡ aheadOf (f′ .m) (f′ .w) → length r′ ≡ 15 → Here p₀ first a₀ y₀ (n + 1) f′ t′ x′ r′ m′ a′ y′
+  here-after : (f′ : Flow) (r′ m′ : List ℕ) → clock (coreOf s) (piped (whole s f t x r) m (h .entries) (h .times)) ≡ after s t (h .entries) (h .times) (f .w) f′ r′ m′
+      → f′ .ahead ≡ aheadOf (coreOf s) (f′ .m) (f′ .w) → length r′ ≡ 15 → Here s p₀ first a₀ y₀ (n + 1) f′ t′ x′ r′ m′ a′ y′
   unfolding clocks tallyAfter
   here-after f′ r′ m′ e i l =
       let at : t .retired - first ≡ length (h .entries) = omega (arith, h .entered) in
@@ -143,44 +144,44 @@ module _ {p₀ : Piped} {first : ℕ} {a₀ y₀ : List ℕ} {n : ℕ} {f : Flow
       record {
         entries = h .entries ++ logged (f .w) (t′ .last);
         times = h .times ++ logged (f .w) (t′ .cycles);
-        state = rw add-one (ap (clock asIn01) (h .state) ∙ (e ∙ rw (et, ex)));
+        state = rw add-one (ap (clock (coreOf s)) (h .state) ∙ (e ∙ rw (et, ex)));
         addresses = cc (laid-noted (f .w) (h .entries) a₀ (t′ .last));
         cycles = cc (laid-noted (f .w) (h .times) y₀ (t′ .cycles));
         entered = cc (logged-count (f .w) (h .entries) (t′ .last) first (t .retired) (h .entered));
         timed = cc (logged-count (f .w) (h .times) (t′ .cycles) first (t .retired) (h .timed));
-        small = rw (et, more) (tally-small (262146 + n * 3) t (f .w) (h .small));
+        small = rw (et, more) (tally-small (coreOf s) (262146 + n * 3) t (f .w) (h .small));
         ahead = i;
         long = l;
       }
 
-  pub here-next : {f′ : Flow} {r′ m′ : List ℕ} → v ≡ false → f′ ≡ flowAfter f r m → r′ ≡ registersAfter (f .w) r → m′ ≡ memoryAfter (f .m) m
-      → Here p₀ first a₀ y₀ (n + 1) f′ t′ x′ r′ m′ a′ y′
+  pub here-next : {f′ : Flow} {r′ m′ : List ℕ} → v ≡ false → f′ ≡ flowAfter (coreOf s) f r m → r′ ≡ registersAfter (f .w) r → m′ ≡ memoryAfter (f .m) m
+      → Here s p₀ first a₀ y₀ (n + 1) f′ t′ x′ r′ m′ a′ y′
   unfolding flowAfter shiftedOf
-  here-next w ef er em = rw (ef, er, em) (here-after _ _ _ (goes f t x r m (h .entries) (h .times) (cc) (cc)) refl (length-after-w (f .w) r ∙ h .long))
+  here-next w ef er em = rw (ef, er, em) (here-after _ _ _ (goes s f t x r m (h .entries) (h .times) (cc) (cc)) refl (length-after-w (f .w) r ∙ h .long))
 
-  pub here-stopped : v ≡ true → Here p₀ first a₀ y₀ (n + 1) f t′ x′ r m a′ y′ × (isBad x′ ≡ true)
-  here-stopped w = (here-after f r m (stops f t x r m (h .entries) (h .times) (cc) (cc)) (h .ahead) (h .long), cc (bad-after (f .w)))
+  pub here-stopped : v ≡ true → Here s p₀ first a₀ y₀ (n + 1) f t′ x′ r m a′ y′ × (isBad x′ ≡ true)
+  here-stopped w = (here-after f r m (stops s f t x r m (h .entries) (h .times) (cc) (cc)) (h .ahead) (h .long), cc (bad-after (f .w)))
 
 -- THE END
 pub same-start : {k : Pipeline} {f : Flow} {t : Tally} {m : Memory} → f ≡ flowOf k → t ≡ tallyOf k
-    → pipedOf (whole f t (k .status) (k .registers)) m ≡ pipedOf k m
+    → pipedOf (whole (k .settings) f t (k .status) (k .registers)) m ≡ pipedOf k m
 unfolding whole flowOf tallyOf
 same-start ef et = rw (ef, et)
 
 -- by each way out of the loop the variables primed are those that it left
-module _ {p₀ : Piped} {k : Pipeline} {m₀ : Memory} {first : ℕ} {a₀ y₀ : List ℕ} {n : ℕ} {f : Flow} {t t′ : Tally} {x x′ : Status}
-    {r m a y a′ y′ : List ℕ} {p : Pipeline} (budget : ℕ) (from : p₀ ≡ pipedOf k m₀) (h : Here p₀ first a₀ y₀ n f t x r m a y)
-    (to : p ≡ whole f t′ x′ r) (ea : a′ ≡ a) (ey : y′ ≡ y) (et : t′ ≡ t) (ex : x′ ≡ x) where
-  pub at-budget : n ≡ budget → pipeAnswer 0 p m a′ y′ ≡ pipeDone (clocks asIn01 (pipedOf k m₀) budget) a₀ y₀
+module _ {s : Settings} {p₀ : Piped} {k : Pipeline} {m₀ : Memory} {first : ℕ} {a₀ y₀ : List ℕ} {n : ℕ} {f : Flow} {t t′ : Tally} {x x′ : Status}
+    {r m a y a′ y′ : List ℕ} {p : Pipeline} (budget : ℕ) (from : p₀ ≡ pipedOf k m₀) (h : Here s p₀ first a₀ y₀ n f t x r m a y)
+    (to : p ≡ whole s f t′ x′ r) (ea : a′ ≡ a) (ey : y′ ≡ y) (et : t′ ≡ t) (ex : x′ ≡ x) where
+  pub at-budget : n ≡ budget → pipeAnswer 0 p m a′ y′ ≡ pipeDone (clocks (coreOf s) (pipedOf k m₀) budget) a₀ y₀
   unfolding pipeDone
   at-budget e = cc
 
-  pub at-stop : n ≤ budget → isBad x ≡ true → pipeAnswer 0 p m a′ y′ ≡ pipeDone (clocks asIn01 (pipedOf k m₀) budget) a₀ y₀
+  pub at-stop : n ≤ budget → isBad x ≡ true → pipeAnswer 0 p m a′ y′ ≡ pipeDone (clocks (coreOf s) (pipedOf k m₀) budget) a₀ y₀
   unfolding pipeDone whole
   at-stop l b =
-      let bad : isBad (clocks asIn01 p₀ n .pipeline .status) ≡ true = rw (h .state) b in
+      let bad : isBad (clocks (coreOf s) p₀ n .pipeline .status) ≡ true = rw (h .state) b in
       let e : budget - n + n ≡ budget = omega arith in
-      cc (stays asIn01 p₀ n (budget - n) bad)
+      cc (stays (coreOf s) p₀ n (budget - n) bad)
 
 -- the logs keep their lengths
 pub same-lengths : (k : Pipeline) (m a y a₀ y₀ : List ℕ) (p : Piped) → pipeAnswer 0 k m a y ≡ pipeDone p a₀ y₀ → (length a ≡ length a₀) × (length y ≡ length y₀)

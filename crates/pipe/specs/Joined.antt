@@ -1,12 +1,13 @@
 -- "Running a then b cycles equals running a + b, logs joined, where none of the three is refused." A theorem of the definitions, at any
 -- settings: `joined`, and `unlogged` for runs without logs. Assumes nothing.
-use mathlib.Core.Path.{_≡_, refl, ap, _∙_}
+use mathlib.Core.Path.{_≡_, refl, ap, sym, _∙_}
 use mathlib.Core.Bool.{Bool, true, false, cond}
 use mathlib.Core.List.{List, [], _∷_, _++_, append-assoc, append-nil}
 use Prim.Native.Nat.{ℕ, zero, suc, _+_, _-_}
 use native.Mathlib.Nat.{add-zero, add-suc}
 use native.Mathlib.Omega.{arith}
 use lib.ListN.{length, take, drop, length-append}
+use Rattle.clocked.specs.declared.Settings.{Settings}
 use Rattle.clocked.specs.declared.Pipeline.{Pipeline}
 use Rattle.clocked.specs.declared.StageD.{StageD}
 use Rattle.clocked.specs.declared.StageD.the-variants.{BubbleD as bubbleD, InD as inD}
@@ -14,11 +15,12 @@ use Rattle.clocked.specs.declared.StageW.{StageW}
 use Rattle.clocked.specs.declared.StageW.the-variants.{BubbleW as bubbleW, InW as inW}
 use Rattle.machine.specs.Types.{isBad}
 use Rattle.machine.specs.Memory.{Memory}
-use Rattle.clocked.specs.Prediction.{Settings}
+use Rattle.clocked.specs.Prediction.{Core, coreOf}
 use Rattle.clocked.specs.Pipeline.{Piped, pipedOf, source, sourceM, sourceW, waits, mispredicts, returns, fails, fetchAddress, fetchedNow, nextF}
 use Rattle.clocked.specs.Pipeline.{nextD, nextE, nextM, nextCodes, decodedD, retiredAfter, logged, advanced, stoppedIn, clockBy, clock, clocks}
 use Rattle.machine.specs.Runs.{laid}
 use Rattle.clocked.specs.PipeRuns.{pipeRefusal, PipeAnswer, pipeAnswer, pipeDone, pipeBy, pipeRun, pipeRunUnlogged}
+use Rattle.clock_laws.specs.Settings.{clocks-keep}
 use Rattle.answers.specs.Logs.{laid-joined}
 use Rattle.answers.specs.Refusals.{ran}
 use Rattle.answers.specs.Joined.{Engine, moved}
@@ -27,7 +29,7 @@ use Rattle.answers.specs.Joined.{Engine, moved}
 before : List ℕ → List ℕ → Piped → Piped
 before es ys p = record { pipeline = p .pipeline; memory = p .memory; addressLog = es ++ p .addressLog; cycleLog = ys ++ p .cycleLog }
 
-module _ (g : Settings) (es ys : List ℕ) where
+module _ (g : Core) (es ys : List ℕ) where
   decoded-before : (p : Piped) (d : StageD) → decodedD (before es ys p) d ≡ decodedD p d
   unfolding before decodedD source sourceM sourceW
   decoded-before p bubbleD = refl
@@ -67,7 +69,7 @@ pub record Even (p q : Piped) : Type 0 where
 even : (p : Piped) → Even p p
 even p = record { addresses = refl; cycles = refl }
 
-module _ (g : Settings) where
+module _ (g : Core) where
   one-logged : (w : StageW) (es : List ℕ) (x n : ℕ) → n + length (es ++ logged w x) ≡ retiredAfter w n + length es
   unfolding logged retiredAfter
   one-logged bubbleW es x n = rw append-nil
@@ -117,84 +119,88 @@ module _ (g : Settings) where
       let s = clocks g p a in
       clocks-add p a b ∙ simp append-nil at (clocks-before g (s .addressLog) (s .cycleLog) (pipedOf (s .pipeline) (s .memory)) b)
 
-  -- a run that is not refused, with logs or without
-  done : (logs : List ℕ) (k : Pipeline) (m : Memory) (n : ℕ) (a y : List ℕ) → pipeBy g logs k m n a y .number ≡ 0
-      → pipeBy g logs k m n a y ≡ pipeDone (clocks g (pipedOf k m) n) a y
-  unfolding pipeBy
-  done logs k m n a y h = ran (λ o. o .number) (pipeRefusal k (length m) n logs) _ _ refl h
+-- a run that is not refused, with logs or without
+done : (logs : List ℕ) (k : Pipeline) (m : Memory) (n : ℕ) (a y : List ℕ) → pipeBy logs k m n a y .number ≡ 0
+    → pipeBy logs k m n a y ≡ pipeDone (clocks (coreOf (k .settings)) (pipedOf k m) n) a y
+unfolding pipeBy
+done logs k m n a y h = ran (λ o. o .number) (pipeRefusal k (length m) n logs) _ _ refl h
 
-  done-run : (k : Pipeline) (m : Memory) (n : ℕ) (a y : List ℕ) → pipeRun g k m n a y .number ≡ 0
-      → pipeRun g k m n a y ≡ pipeDone (clocks g (pipedOf k m) n) a y
-  unfolding pipeRun
-  done-run k m n a y h = done (length a ∷ length y ∷ []) k m n a y h
+done-run : (k : Pipeline) (m : Memory) (n : ℕ) (a y : List ℕ) → pipeRun k m n a y .number ≡ 0
+    → pipeRun k m n a y ≡ pipeDone (clocks (coreOf (k .settings)) (pipedOf k m) n) a y
+unfolding pipeRun
+done-run k m n a y h = done (length a ∷ length y ∷ []) k m n a y h
 
-  -- THE THEOREM
-  -- the answers f, h and b of the first run, the second and both, over the states s and r in which the first two end
-  from-states : (s r : Piped) (n : ℕ) (log times : List ℕ) (f h b : PipeAnswer) → f .addresses ≡ laid (s .addressLog) log → f .cycles ≡ laid (s .cycleLog) times
-      → n ≡ length (s .addressLog) → n ≡ length (s .cycleLog) → h ≡ pipeDone r (drop n (f .addresses)) (drop n (f .cycles))
-      → b ≡ pipeDone (before (s .addressLog) (s .cycleLog) r) log times
-      → b ≡ pipeAnswer 0 (h .pipeline) (h .memory) (take n (f .addresses) ++ h .addresses) (take n (f .cycles) ++ h .cycles)
-  unfolding pipeDone before
-  from-states s r n log times f h b fa fy ea ey eh eb =
-      rw (eb, eh) (cc (laid-joined (s .addressLog) (r .addressLog) log, laid-joined (s .cycleLog) (r .cycleLog) times))
+-- THE THEOREM
+-- the answers f, h and b of the first run, the second and both, over the states s and r in which the first two end
+from-states : (s r : Piped) (n : ℕ) (log times : List ℕ) (f h b : PipeAnswer) → f .addresses ≡ laid (s .addressLog) log → f .cycles ≡ laid (s .cycleLog) times
+    → n ≡ length (s .addressLog) → n ≡ length (s .cycleLog) → h ≡ pipeDone r (drop n (f .addresses)) (drop n (f .cycles))
+    → b ≡ pipeDone (before (s .addressLog) (s .cycleLog) r) log times
+    → b ≡ pipeAnswer 0 (h .pipeline) (h .memory) (take n (f .addresses) ++ h .addresses) (take n (f .cycles) ++ h .cycles)
+unfolding pipeDone before
+from-states s r n log times f h b fa fy ea ey eh eb =
+    rw (eb, eh) (cc (laid-joined (s .addressLog) (r .addressLog) log, laid-joined (s .cycleLog) (r .cycleLog) times))
 
-  -- the first run, its retirements, the second run, from where the first one left it and with the places that it left in the logs, and
-  -- the run of both budgets
-  module _ (k : Pipeline) (m : Memory) (a b : ℕ) (log times : List ℕ) where
-    abbrev pub first : PipeAnswer
-    first = pipeRun g k m a log times
+-- the first run, its retirements, the second run, from where the first one left it and with the places that it left in the logs, and
+-- the run of both budgets
+module _ (k : Pipeline) (m : Memory) (a b : ℕ) (log times : List ℕ) where
+  abbrev pub first : PipeAnswer
+  first = pipeRun k m a log times
 
-    abbrev pub retirements : ℕ
-    retirements = first .pipeline .retired - k .retired
+  abbrev pub retirements : ℕ
+  retirements = first .pipeline .retired - k .retired
 
-    abbrev pub second : PipeAnswer
-    second = pipeRun g (first .pipeline) (first .memory) b (drop retirements (first .addresses)) (drop retirements (first .cycles))
+  abbrev pub second : PipeAnswer
+  second = pipeRun (first .pipeline) (first .memory) b (drop retirements (first .addresses)) (drop retirements (first .cycles))
 
-    abbrev pub both : PipeAnswer
-    both = pipeRun g k m (a + b) log times
+  abbrev pub both : PipeAnswer
+  both = pipeRun k m (a + b) log times
 
-    pub joined : first .number ≡ 0 → second .number ≡ 0 → both .number ≡ 0
-        → both
-        ≡ pipeAnswer 0 (second .pipeline) (second .memory) (take retirements (first .addresses) ++ second .addresses)
-        (take retirements (first .cycles) ++ second .cycles)
-    unfolding pipeDone
-    joined hf hs hb =
-        let s = clocks g (pipedOf k m) a in
-        let e = clocks-even (pipedOf k m) a in
-        let f = done-run k m a log times hf in
-        let p : first .pipeline ≡ s .pipeline = ap (λ (t : PipeAnswer). t .pipeline) f in
-        let y : first .memory ≡ s .memory = ap (λ (t : PipeAnswer). t .memory) f in
-        let n = ap (λ (x : Pipeline). x .retired) p in
-        from-states s (clocks g (pipedOf (first .pipeline) (first .memory)) b) retirements log times first second both
-        (ap (λ (t : PipeAnswer). t .addresses) f) (ap (λ (t : PipeAnswer). t .cycles) f) (omega (arith, e .addresses, n)) (omega (arith, e .cycles, n))
-        (done-run (first .pipeline) (first .memory) b (drop retirements (first .addresses)) (drop retirements (first .cycles)) hs)
-        (done-run k m (a + b) log times hb ∙ rw (p, y) (ap (λ (t : Piped). pipeDone t log times) (clocks-join (pipedOf k m) a b)))
+  pub joined : first .number ≡ 0 → second .number ≡ 0 → both .number ≡ 0
+      → both
+      ≡ pipeAnswer 0 (second .pipeline) (second .memory) (take retirements (first .addresses) ++ second .addresses)
+      (take retirements (first .cycles) ++ second .cycles)
+  unfolding pipeDone
+  joined hf hs hb =
+      let g = coreOf (k .settings) in
+      let s = clocks g (pipedOf k m) a in
+      let e = clocks-even g (pipedOf k m) a in
+      let f = done-run k m a log times hf in
+      let p : first .pipeline ≡ s .pipeline = ap (λ (t : PipeAnswer). t .pipeline) f in
+      let y : first .memory ≡ s .memory = ap (λ (t : PipeAnswer). t .memory) f in
+      let n = ap (λ (x : Pipeline). x .retired) p in
+      from-states s (clocks (coreOf (first .pipeline .settings)) (pipedOf (first .pipeline) (first .memory)) b) retirements log times first second both
+      (ap (λ (t : PipeAnswer). t .addresses) f) (ap (λ (t : PipeAnswer). t .cycles) f) (omega (arith, e .addresses, n)) (omega (arith, e .cycles, n))
+      (done-run (first .pipeline) (first .memory) b (drop retirements (first .addresses)) (drop retirements (first .cycles)) hs)
+      (done-run k m (a + b) log times hb ∙ rw (p, y, clocks-keep g (pipedOf k m) a) (ap (λ (t : Piped). pipeDone t log times) (clocks-join g (pipedOf k m) a b)))
 
-  -- WITHOUT LOGS
-  -- record and memory after a clock
-  unfoldable pub clocked : Pipeline × Memory → Pipeline × Memory
-  clocked x = let p = clock g (pipedOf (x .0) (x .1)) in (p .pipeline, p .memory)
+-- WITHOUT LOGS
+-- record and memory after a clock
+unfoldable pub clocked : Pipeline × Memory → Pipeline × Memory
+clocked x = let p = clock (coreOf (x .0 .settings)) (pipedOf (x .0) (x .1)) in (p .pipeline, p .memory)
 
-  -- what so many clocks leave, though each logs
-  clocks-moved : (k : Pipeline) (m : Memory) (n : ℕ) → let p = clocks g (pipedOf k m) n in (p .pipeline, p .memory) ≡ moved clocked (k, m) n
-  unfolding clocks moved clocked before
-  clocks-moved k m zero = refl
-  clocks-moved k m (suc n) =
-      let p = clocks g (pipedOf k m) n in
-      ap (λ (t : Piped). (t .pipeline, t .memory)) (simp append-nil at (clock-before g (p .addressLog) (p .cycleLog) (pipedOf (p .pipeline) (p .memory))))
-      ∙ ap clocked (clocks-moved k m n)
+-- what so many clocks leave, though each logs
+clocks-moved : (k : Pipeline) (m : Memory) (n : ℕ) → let p = clocks (coreOf (k .settings)) (pipedOf k m) n in (p .pipeline, p .memory) ≡ moved clocked (k, m) n
+unfolding clocks moved clocked before
+clocks-moved k m zero = refl
+clocks-moved k m (suc n) =
+    let g = coreOf (k .settings) in
+    let p = clocks g (pipedOf k m) n in
+    let bare = pipedOf (p .pipeline) (p .memory) in
+    ap (λ (t : Piped). (t .pipeline, t .memory)) (simp append-nil at (clock-before g (p .addressLog) (p .cycleLog) bare))
+    ∙ (ap (λ (x : Settings). let t = clock (coreOf x) bare in (t .pipeline, t .memory)) (sym (clocks-keep g (pipedOf k m) n))
+    ∙ ap clocked (clocks-moved k m n))
 
-  pub ran-moved : (k : Pipeline) (m : Memory) (n : ℕ) → pipeRunUnlogged g k m n .number ≡ 0
-      → let o = pipeRunUnlogged g k m n in (o .pipeline, o .memory) ≡ moved clocked (k, m) n
-  unfolding pipeRunUnlogged pipeDone
-  ran-moved k m n h = ap (λ (o : PipeAnswer). (o .pipeline, o .memory)) (done [] k m n [] [] h) ∙ clocks-moved k m n
+pub ran-moved : (k : Pipeline) (m : Memory) (n : ℕ) → pipeRunUnlogged k m n .number ≡ 0
+    → let o = pipeRunUnlogged k m n in (o .pipeline, o .memory) ≡ moved clocked (k, m) n
+unfolding pipeRunUnlogged pipeDone
+ran-moved k m n h = ap (λ (o : PipeAnswer). (o .pipeline, o .memory)) (done [] k m n [] [] h) ∙ clocks-moved k m n
 
-  -- the pipelined engine without logs: `answers` `Joined` `joined` and `ones-join` hold of it, and a run of 1 is a clock
-  unfoldable pub unlogged : Engine
-  unlogged =
-      record {
-        State = Pipeline × Memory;
-        move = clocked;
-        run = λ x n. let o = pipeRunUnlogged g (x .0) (x .1) n in (o .number, (o .pipeline, o .memory));
-        moves = λ x n h. ran-moved (x .0) (x .1) n h;
-      }
+-- the pipelined engine without logs: `answers` `Joined` `joined` and `ones-join` hold of it, and a run of 1 is a clock
+unfoldable pub unlogged : Engine
+unlogged =
+    record {
+      State = Pipeline × Memory;
+      move = clocked;
+      run = λ x n. let o = pipeRunUnlogged (x .0) (x .1) n in (o .number, (o .pipeline, o .memory));
+      moves = λ x n h. ran-moved (x .0) (x .1) n h;
+    }

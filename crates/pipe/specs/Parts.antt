@@ -1,13 +1,14 @@
--- The record taken apart: what the code works on for the length of a run, in the words of machine's Pipeline and Runs.
+-- The record taken apart: what the code works on for the length of a run, in the words of clocked's Pipeline and PipeRuns.
 use Prim.Native.Nat.{ℕ}
 use mathlib.Core.Bool.{Bool, cond}
 use mathlib.Core.List.{List, [], _∷_}
 use lib.Dec.{eqb}
 use lib.ListN.{length, set}
+use Rattle.clocked.specs.declared.Settings.{Settings}
 use Rattle.clocked.specs.declared.Pipeline.{Pipeline}
 use Rattle.machine.specs.declared.Status.{Status}
 use Rattle.machine.specs.Memory.{Memory, Registers}
-use Rattle.clocked.specs.Prediction.{asIn01}
+use Rattle.clocked.specs.Prediction.{coreOf}
 use Rattle.clocked.specs.Pipeline.{pipedOf, clocks}
 use Rattle.machine.specs.Runs.{sizeRefused, budgetRefused, lowest}
 use Rattle.clocked.specs.PipeRuns.{recordRefused, pipeLimit, PipeAnswer, pipeAnswer, pipeDone}
@@ -18,16 +19,26 @@ use Rattle.retiring.specs.declared.Tally.{Tally}
 -- THE RECORD
 -- what a clock moves, with what is carried of M and W
 unfoldable pub flowOf : Pipeline → Flow
-flowOf p = record { predicted = p .predicted; d = p .d; e = p .e; m = p .m; w = p .w; codes = p .codes; ahead = aheadOf (p .m) (p .w) }
+flowOf p =
+    record {
+      predicted = p .predicted;
+      d = p .d;
+      e = p .e;
+      m = p .m;
+      w = p .w;
+      codes = p .codes;
+      ahead = aheadOf (coreOf (p .settings)) (p .m) (p .w);
+    }
 
 -- what a clock counts
 unfoldable pub tallyOf : Pipeline → Tally
 tallyOf p = record { last = p .last; retired = p .retired; cycles = p .cycles; kinds = p .kinds; kept = p .kept }
 
 -- the record put together again
-unfoldable pub whole : Flow → Tally → Status → Registers → Pipeline
-whole f t x r =
+unfoldable pub whole : Settings → Flow → Tally → Status → Registers → Pipeline
+whole s f t x r =
     record {
+      settings = s;
       predicted = f .predicted;
       d = f .d;
       e = f .e;
@@ -58,4 +69,4 @@ refusalBy short k size budget =
 unfoldable pub answerBy : Bool → Pipeline → Memory → ℕ → List ℕ → List ℕ → PipeAnswer
 answerBy short k m budget a y =
     let n = refusalBy short k (length m) budget in
-    cond (eqb n 0) (pipeDone (clocks asIn01 (pipedOf k m) budget) a y) (pipeAnswer n k m a y)
+    cond (eqb n 0) (pipeDone (clocks (coreOf (k .settings)) (pipedOf k m) budget) a y) (pipeAnswer n k m a y)

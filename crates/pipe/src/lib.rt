@@ -7,6 +7,7 @@ use crate::running::looped;
 use clocked::Kept;
 use clocked::Kinds;
 use clocked::Pipeline;
+use clocked::Settings;
 use clocked::StageD;
 use clocked::StageE;
 use clocked::StageM;
@@ -16,7 +17,6 @@ use machine::REGISTERS;
 use machine::Status;
 ghost use mathlib.Core.Path.{_≡_};
 ghost use mathlib.Core.List.{[]};
-ghost use Rattle.clocked.specs.Prediction.{asIn01};
 ghost use Rattle.clocked.specs.Pipeline.{pipeStart};
 ghost use Rattle.clocked.specs.PipeRuns.{pipeAnswer, pipeRun, pipeRunUnlogged, pipeClock};
 ghost use Rattle.pipe.specs.Parts.{answerBy};
@@ -27,10 +27,16 @@ pub struct Answer {
     pub pipeline: Pipeline,
 }
 
-pub fn start(registers: [u64; REGISTERS], codes: Codes, address: u64) -> Pipeline
-    ensures { λ r. ⌜ r ≡ pipeStart registers codes address ⌝ }
+pub fn start(
+    settings: Settings,
+    registers: [u64; REGISTERS],
+    codes: Codes,
+    address: u64,
+) -> Pipeline
+    ensures { λ r. ⌜ r ≡ pipeStart settings registers codes address ⌝ }
 {
     Pipeline {
+        settings,
         predicted: address,
         d: StageD::BubbleD,
         e: StageE::BubbleE,
@@ -83,7 +89,7 @@ pub fn run(
     cycles: &mut [u64],
 ) -> Answer
     ensures { λ r. ⌜ pipeAnswer (r .number) (r .pipeline) (now (memory .exit)) (now (addresses .exit)) (now (cycles .exit))
-        ≡ pipeRun asIn01 pipeline (now (memory .entry)) budget (now (addresses .entry)) (now (cycles .entry)) ⌝ }
+        ≡ pipeRun pipeline (now (memory .entry)) budget (now (addresses .entry)) (now (cycles .entry)) ⌝ }
 {
     let short = ((addresses.len() as u64) < budget) | ((cycles.len() as u64) < budget);
     perform(pipeline, memory, budget, short, addresses, cycles)
@@ -91,7 +97,7 @@ pub fn run(
 
 // A run without logs.
 pub fn run_unlogged(pipeline: Pipeline, memory: &mut [u8], budget: u64) -> Answer
-    ensures { λ r. ⌜ pipeAnswer (r .number) (r .pipeline) (now (memory .exit)) [] [] ≡ pipeRunUnlogged asIn01 pipeline (now (memory .entry)) budget ⌝ }
+    ensures { λ r. ⌜ pipeAnswer (r .number) (r .pipeline) (now (memory .exit)) [] [] ≡ pipeRunUnlogged pipeline (now (memory .entry)) budget ⌝ }
 {
     let mut addresses = [0u64; 1];
     let mut cycles = [0u64; 1];
@@ -107,7 +113,7 @@ pub fn run_unlogged(pipeline: Pipeline, memory: &mut [u8], budget: u64) -> Answe
 
 // A clock is a run of 1 without logs.
 pub fn clock(pipeline: Pipeline, memory: &mut [u8]) -> Answer
-    ensures { λ r. ⌜ pipeAnswer (r .number) (r .pipeline) (now (memory .exit)) [] [] ≡ pipeClock asIn01 pipeline (now (memory .entry)) ⌝ }
+    ensures { λ r. ⌜ pipeAnswer (r .number) (r .pipeline) (now (memory .exit)) [] [] ≡ pipeClock pipeline (now (memory .entry)) ⌝ }
 {
     run_unlogged(pipeline, memory, 1)
 }

@@ -1,5 +1,6 @@
 // The loop of every entry, with the record taken apart for its length.
 use clocked::Pipeline;
+use clocked::Settings;
 use flow::Ahead;
 use flow::Flow;
 use flow::advance;
@@ -17,7 +18,7 @@ use stage::signals::wrong;
 ghost use mathlib.Core.Path.{_≡_};
 ghost use mathlib.Core.Bool.{false};
 ghost use Prim.Native.Nat.{_+_, _≤_};
-ghost use Rattle.clocked.specs.Prediction.{asIn01};
+ghost use Rattle.clocked.specs.Prediction.{coreOf};
 ghost use Rattle.clocked.specs.Pipeline.{pipedOf, clocks};
 ghost use Rattle.clocked.specs.PipeRuns.{pipeLimit, pipeAnswer, pipeDone, countsRefused};
 ghost use Rattle.pipe.specs.Parts.{flowOf, tallyOf, whole, noted};
@@ -26,6 +27,7 @@ ghost use Rattle.pipe.specs.Parts.{flowOf, tallyOf, whole, noted};
 fn flow_of(p: Pipeline) -> Flow
     ensures { λ r. ⌜ r ≡ flowOf p ⌝ }
 {
+    let settings = p.settings;
     let d = p.d;
     let e = p.e;
     let m = p.m;
@@ -34,7 +36,7 @@ fn flow_of(p: Pipeline) -> Flow
     let ahead = Ahead {
         m: targets_m(m),
         w: targets_w(w),
-        wrong: wrong(m),
+        wrong: wrong(settings, m),
     };
     Flow {
         predicted: p.predicted,
@@ -62,8 +64,14 @@ fn tally_of(p: Pipeline) -> Tally
     }
 }
 
-fn put_together(flow: Flow, tally: Tally, status: Status, registers: [u64; REGISTERS]) -> Pipeline
-    ensures { λ r. ⌜ r ≡ whole flow tally status registers ⌝ }
+fn put_together(
+    settings: Settings,
+    flow: Flow,
+    tally: Tally,
+    status: Status,
+    registers: [u64; REGISTERS],
+) -> Pipeline
+    ensures { λ r. ⌜ r ≡ whole settings flow tally status registers ⌝ }
 {
     let d = flow.d;
     let e = flow.e;
@@ -73,6 +81,7 @@ fn put_together(flow: Flow, tally: Tally, status: Status, registers: [u64; REGIS
     let kinds = tally.kinds;
     let kept = tally.kept;
     Pipeline {
+        settings,
         predicted: flow.predicted,
         d,
         e,
@@ -108,8 +117,9 @@ pub fn looped(
 ) -> Pipeline
     requires { ⌜ (pipeline .cycles + budget ≤ pipeLimit) × (countsRefused pipeline ≡ false) ⌝ }
     ensures { λ r. ⌜ pipeAnswer 0 r (now (memory .exit)) (now (addresses .exit)) (now (cycles .exit))
-        ≡ pipeDone (clocks asIn01 (pipedOf pipeline (now (memory .entry))) budget) (now (addresses .entry)) (now (cycles .entry)) ⌝ }
+        ≡ pipeDone (clocks (coreOf (pipeline .settings)) (pipedOf pipeline (now (memory .entry))) budget) (now (addresses .entry)) (now (cycles .entry)) ⌝ }
 {
+    let settings = pipeline.settings;
     let first = pipeline.retired;
     let mut registers = pipeline.registers;
     let mut flow = flow_of(pipeline);
@@ -123,7 +133,7 @@ pub fn looped(
         let place = tally.retired - first;
         let w = flow.w;
         let retired = retires(w);
-        tally = counted(tally, w);
+        tally = counted(settings, tally, w);
         status = status_after(w);
         note(retired, place, tally.last, addresses);
         note(retired, place, tally.cycles, cycles);
@@ -131,7 +141,7 @@ pub fn looped(
         if bad_in_w(w) {
             break; // everything else stays as it stood
         }
-        flow = advance(flow, &mut registers, memory);
+        flow = advance(settings, flow, &mut registers, memory);
     }
-    put_together(flow, tally, status, registers)
+    put_together(settings, flow, tally, status, registers)
 }

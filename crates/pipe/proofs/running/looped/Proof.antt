@@ -1,7 +1,7 @@
 -- The invariant: flow, counts, status, registers, memory and logs are those after `done` clocks of the definition (`Runs` `Here`, which also keeps the
 -- counts small and the carried targets right), `done` is within the budget, and memory keeps its length. The measure is what is left of the budget.
--- A turn goes on by `here-next`, or stops in its clock by `here-stopped`. The `let`s name the record of facts at a place of the turn: `turn` where it
--- begins, `retired` behind `retires`, `noted` behind the second `note`, `tested` behind `bad_in_w`.
+-- A turn goes on by `here-next`, or stops in its clock by `here-stopped`. A `let` names the record of facts behind a call, or at a place of the loop, by
+-- its type, for which `search` finds the place.
 use mathlib.Core.Logic.{⊎-elim}
 use mathlib.Core.Path.{_≡_, refl, sym, _∙_}
 use Prim.Native.Nat.{_-_, _≤_}
@@ -15,12 +15,13 @@ use Rattle.pipe.proofs.running.looped.Statement.{statement}
 use Rattle.pipe.proofs.running.looped.Tie as tie
 
 abbrev Inv-loop : tie.InvT-loop
-Inv-loop memory₀ budget addresses₀ cycles₀ first registers₀ flow₀ tally₀ status₀ done₀ memory addresses cycles registers flow tally status done =
-    Here (pipedOf (whole flow₀ tally₀ status₀ registers₀) memory₀) first addresses₀ cycles₀ done flow tally status registers memory addresses cycles
+Inv-loop memory₀ budget addresses₀ cycles₀ settings first registers₀ flow₀ tally₀ status₀ done₀ memory addresses cycles registers flow tally status done =
+    Here settings (pipedOf (whole settings flow₀ tally₀ status₀ registers₀) memory₀) first addresses₀ cycles₀ done flow tally status registers memory addresses
+    cycles
     × (done ≤ budget) × (length memory ≡ length memory₀)
 
 abbrev μ-loop : tie.MeasureT-loop
-μ-loop memory₀ budget addresses₀ cycles₀ first registers₀ flow₀ tally₀ status₀ done₀ memory addresses cycles registers flow tally status done =
+μ-loop memory₀ budget addresses₀ cycles₀ settings first registers₀ flow₀ tally₀ status₀ done₀ memory addresses cycles registers flow tally status done =
     budget - done
 
 flow-of-requires : tie.Need-flow-of-requires Inv-loop μ-loop
@@ -31,21 +32,26 @@ tally-of-requires c κs = search needs
 
 loop-holds : tie.Need-loop-holds Inv-loop μ-loop
 loop-holds c =
-    let start = c .before .before .before .before .before .before in
-    let long : length (start .args .pipeline .registers) ≡ 15 = search (needs, start .good .0 .1 .1 .1 .1 .1 .1 .1 .0) in
-    (here-first _ (c .before .flow-of .ensures) long (c .tally-of .ensures) (start .pre .1) (omega (arith, start .pre .0)), omega arith, refl)
+    let flowed : tie.After-flow-of Inv-loop μ-loop = search in
+    let start : tie.Start Inv-loop μ-loop = search in
+    let long : length (start .args .pipeline .registers) ≡ 15 = search (needs, start .good .0 .1 .1 .1 .1 .1 .1 .1 .1 .0) in
+    (here-first _ (flowed .flow-of .ensures) long (c .tally-of .ensures) (start .pre .1) (omega (arith, start .pre .0)), omega arith, refl)
 
 is-bad-requires : tie.Need-is-bad-requires Inv-loop μ-loop
 is-bad-requires c κs = search needs
 
 sub-place : tie.Need-sub-place Inv-loop μ-loop
-sub-place c = omega (arith, c .before .before .before .before .loop .inv .0 .entered)
+sub-place c =
+    let turn : tie.At-loop Inv-loop μ-loop = search in
+    omega (arith, turn .loop .inv .0 .entered)
 
 retires-requires : tie.Need-retires-requires Inv-loop μ-loop
 retires-requires c κs = search needs
 
 counted-requires : tie.Need-counted-requires Inv-loop μ-loop
-counted-requires c κs = small-enough _ _ (omega arith) (c .before .before .before .before .before .loop .inv .0 .small)
+counted-requires c κs =
+    let turn : tie.At-loop Inv-loop μ-loop = search in
+    small-enough _ _ (omega arith) (turn .loop .inv .0 .small)
 
 status-after-requires : tie.Need-status-after-requires Inv-loop μ-loop
 status-after-requires c κs = search needs
@@ -58,10 +64,8 @@ note-requires-2 c κs = search needs
 
 add-done : tie.Need-add-done Inv-loop μ-loop
 add-done c =
-    let noted = c .before .before in
-    let retired = noted .before .before .before .before .before .before .before .before in
-    let turn = retired .before .before .before .before in
-    let start = turn .before .before .before .before .before .before .before .before in
+    let turn : tie.In-loop Inv-loop μ-loop = search in
+    let start : tie.Start Inv-loop μ-loop = search in
     omega (arith, turn .loop-test .taken, start .fits .budget)
 
 bad-in-w-requires : tie.Need-bad-in-w-requires Inv-loop μ-loop
@@ -69,37 +73,34 @@ bad-in-w-requires c κs = search needs
 
 advance-requires : tie.Need-advance-requires Inv-loop μ-loop
 advance-requires c κs =
-    let tested = c .before .before in
-    let noted = tested .before .before .before .before in
-    let retired = noted .before .before .before .before .before .before .before .before in
-    let turn = retired .before .before .before .before in
-    let here = turn .before .loop .inv .0 in
-    (here .long, here .ahead)
+    let turn : tie.At-loop Inv-loop μ-loop = search in
+    (turn .loop .inv .0 .long, turn .loop .inv .0 .ahead)
 
 loop-less : tie.Need-loop-less Inv-loop μ-loop
 loop-less c =
-    let tested = c .before .before .before .before .before in
-    let noted = tested .before .before .before .before in
-    let retired = noted .before .before .before .before .before .before .before .before in
-    let turn = retired .before .before .before .before in
+    let tested : tie.After-bad-in-w Inv-loop μ-loop = search in
+    let retired : tie.After-retires Inv-loop μ-loop = search in
+    let turn : tie.In-loop Inv-loop μ-loop = search in
     omega (arith, turn .loop-test .taken)
 
 loop-again : tie.Need-loop-again Inv-loop μ-loop
 loop-again c =
-    let advanced = c .before .before in
-    let tested = advanced .before .before .before in
-    let noted = tested .before .before .before .before in
-    let after-status = noted .before .before .before .before .before .before in
-    let retired = after-status .before .before in
-    let runs = retired .before .before in
-    let turn = runs .before .before in
-    let l = turn .before in (
-      here-next (l .loop .inv .0) (runs .before .is-bad .ensures) (runs .if1 .left) (retired .retires .ensures) (after-status .before .counted .ensures)
-          (after-status .status-after .ensures) (noted .before .before .before .before .note .ensures) (noted .note2 .ensures)
-          (tested .before .bad-in-w .ensures) (tested .if2 .left) (advanced .advance .ensures .0) (advanced .advance .ensures .1)
+    let advanced : tie.After-advance Inv-loop μ-loop = search in
+    let tested : tie.After-bad-in-w Inv-loop μ-loop = search in
+    let timed : tie.After-note2 Inv-loop μ-loop = search in
+    let noted : tie.After-note Inv-loop μ-loop = search in
+    let ended : tie.After-status-after Inv-loop μ-loop = search in
+    let counted : tie.After-counted Inv-loop μ-loop = search in
+    let retired : tie.After-retires Inv-loop μ-loop = search in
+    let asked : tie.After-is-bad Inv-loop μ-loop = search in
+    let turn : tie.In-loop Inv-loop μ-loop = search in
+    let l : tie.At-loop Inv-loop μ-loop = search in (
+      here-next (l .loop .inv .0) (asked .is-bad .ensures) (retired .before .before .if1 .left) (retired .retires .ensures) (counted .counted .ensures)
+          (ended .status-after .ensures) (noted .note .ensures) (timed .note2 .ensures)
+          (tested .bad-in-w .ensures) (advanced .before .before .before .if2 .left) (advanced .advance .ensures .0) (advanced .advance .ensures .1)
           (advanced .advance .ensures .2),
       omega (arith, turn .loop-test .taken),
-      advanced .advance .kept .1 .1 .0 ∙ l .loop .inv .2,
+      advanced .advance .kept .1 .1 .1 .0 ∙ l .loop .inv .2,
     )
 
 put-together-requires : tie.Need-put-together-requires Inv-loop μ-loop
