@@ -1,6 +1,6 @@
 -- One law for each way out of a function, over variables for what its callees gave. Assumes nothing.
 use mathlib.Core.Path.{_≡_, refl}
-use mathlib.Core.Bool.{Bool, true, false, cond, _||_}
+use mathlib.Core.Bool.{Bool, true, false, cond, not, _&&_, _||_}
 use Prim.Native.Nat.{ℕ}
 use lib.ListN.{length}
 use Rattle.machine.specs.declared.Codes.{Codes}
@@ -50,33 +50,59 @@ targets-of : (b : Bool) (x : StageM) → cond b noTargets (targetsM x) ≡ targe
 targets-of true x = no-targets
 targets-of false x = refl
 
+wrong-of : (b v : Bool) (x : StageM) → v ≡ wrong asIn01 x → (v && not b) ≡ wrong asIn01 (cond b bubbleM x)
+unfolding wrong
+wrong-of true true x e = refl
+wrong-of true false x e = refl
+wrong-of false true x e = e
+wrong-of false false x e = e
+
 -- the write to W's targets, and decode on what is carried of E and M
-module _ (d : StageD) (q : Sources) (t : Targets) (x : StageM) (y w : StageW) (a : Ahead) (r s : Registers)
-    (given : (length r ≡ 15) × (q ≡ sourcesD d) × (t ≡ targetsM x) × (a .m ≡ targetsW y) × (a .w ≡ targetsW w))
-    (es : s ≡ writtenBy (a .w) w r) where
-  pub registers-are : s ≡ registersAfter w r
-  registers-are = cc (written-is w r)
+pub registers-are : (w : StageW) (r s : Registers) (v : Targets) → v ≡ targetsW w → s ≡ writtenBy v w r → s ≡ registersAfter w r
+registers-are w r s v ev es = cc (written-is w r)
 
-  pub decoded-now : (z : StageE) → z ≡ decodedBy q t x (a .m) y s d → z ≡ decodedIn d x y w r
-  decoded-now z e = cc (registers-are, decoded-is x y w r (given .0) d)
+pub decoded-now : (d : StageD) (q : Sources) (t u v : Targets) (x : StageM) (y w : StageW) (r s : Registers) (z : StageE) → length r ≡ 15 → q ≡ sourcesD d
+    → t ≡ targetsM x → u ≡ targetsW y → v ≡ targetsW w → s ≡ writtenBy v w r → z ≡ decodedBy q t x u y s d → z ≡ decodedIn d x y w r
+decoded-now d q t u v x y w r s z l eq et eu ev es e = cc (registers-are w r s v ev es, decoded-is x y w r l d)
 
-pub carried-on : (a : Ahead) (m : StageM) (w y : StageW) (bytes : Memory) → a ≡ aheadOf m w → y ≡ afterM m bytes → (a .m ≡ targetsW y) × (a .w ≡ targetsW w)
-unfolding aheadOf
-carried-on a m w y bytes h e = (cc (targets-stay m bytes), cc)
+-- what is carried of M and W is that of the stages, and of M's after its access
+module _ (a : Ahead) (m : StageM) (w : StageW) (h : a ≡ aheadOf m w) where
+  pub wrong-carried : a .wrong ≡ wrong asIn01 m
+  unfolding aheadOf
+  wrong-carried = cc
+
+  pub m-carried : (y : StageW) (bytes : Memory) → y ≡ afterM m bytes → a .m ≡ targetsW y
+  unfolding aheadOf
+  m-carried y bytes e = cc (targets-stay m bytes)
+
+  pub w-carried : a .w ≡ targetsW w
+  unfolding aheadOf
+  w-carried = cc
 
 -- the values after the stages' work, and then the controls on the signals
-module _ (f : Flow) (h : f .targets ≡ aheadOf (f .m) (f .w)) (r : Registers) (bytes : Memory) (x : StageM) (y : StageW) (i : Instruction) (t : Targets)
-    (q : Sources) (z : StageE) (g : Signals)
-    (ex : x ≡ afterE (f .e) (f .codes)) (ey : y ≡ afterM (f .m) bytes) (ei : i ≡ fetchedIn (f .m) (f .w) (f .predicted) bytes)
+module _ (f : Flow) (r : Registers) (bytes : Memory) {x : StageM} {y : StageW} {i : Instruction} {t : Targets} {q : Sources} {z : StageE} {g : Signals}
+    (h : f .ahead ≡ aheadOf (f .m) (f .w)) (ex : x ≡ afterE (f .e) (f .codes)) (ey : y ≡ afterM (f .m) bytes) (ei : i ≡ fetchedIn (f .m) (f .w) (f .predicted) bytes)
     (et : t ≡ targetsM x) (eq : q ≡ sourcesD (f .d)) (ez : z ≡ decodedIn (f .d) x y (f .w) r) (eg : g ≡ signalsBy q t (f .d) (f .e) (f .m) x y) where
   signals : g ≡ signalsOf (f .d) (f .e) (f .m) (afterE (f .e) (f .codes)) y
   signals = cc (signals-same (f .d) (f .e) (f .codes) (f .m) y)
 
-  pub flow-is : (p : ℕ) (d : StageD) (e : StageE) (m : StageM) (k : Codes) (u : Targets)
+  wrongly : g .mispredicts ≡ wrong asIn01 x
+  unfolding signalsBy signalsWith
+  wrongly = cc
+
+  pub flow-is : {p : ℕ} {d : StageD} {e : StageE} {m : StageM} {k : Codes} {u : Targets}
       → p ≡ cond (g .waits || g .returns) (f .predicted) (predictedNext asIn01 i)
       → d ≡ cond (g .mispredicts) bubbleD (cond (g .waits) (f .d) (cond (g .returns) bubbleD (inD i)))
       → e ≡ cond (g .mispredicts || g .waits) bubbleE z → m ≡ cond (g .fails) bubbleM x → k ≡ cond (g .fails) (f .codes) (codesAfter (f .e) (f .codes))
       → u ≡ cond (g .fails) noTargets t
-      → record { predicted = p; d = d; e = e; m = m; w = y; codes = k; targets = record { m = u; w = f .targets .m } } ≡ flowAfter f r bytes
+      → record {
+        predicted = p;
+        d = d;
+        e = e;
+        m = m;
+        w = y;
+        codes = k;
+        ahead = record { m = u; w = f .ahead .m; wrong = g .mispredicts && not (g .fails) };
+      } ≡ flowAfter f r bytes
   unfolding flowAfter shiftedOf aheadOf
-  flow-is p d e m k u ep ed ee em ek eu = cc (carried-on (f .targets) (f .m) (f .w) y bytes h ey .0, signals, targets-of (g .fails) x)
+  flow-is ep ed ee em ek eu = cc (m-carried (f .ahead) (f .m) (f .w) h y bytes ey, signals, targets-of (g .fails) x, wrong-of (g .fails) (g .mispredicts) x wrongly)

@@ -21,9 +21,9 @@ use Rattle.flow.specs.declared.Flow.{Flow}
 use Rattle.flow.specs.declared.Ahead.{Ahead}
 use Rattle.flow.specs.declared.Signals.{Signals}
 
--- the targets of what stands in M and in W
+-- what is carried of M and W: their targets, and whether M holds a wrongly guessed jump
 unfoldable pub aheadOf : StageM → StageW → Ahead
-aheadOf m w = record { m = targetsM m; w = targetsW w }
+aheadOf m w = record { m = targetsM m; w = targetsW w; wrong = wrong asIn01 m }
 
 -- b says that D waits
 unfoldable pub signalsWith : Bool → StageD → StageE → StageM → StageM → StageW → Signals
@@ -61,7 +61,7 @@ shiftedOf f s x y i z =
       m = m;
       w = y;
       codes = cond (s .fails) (f .codes) (codesAfter (f .e) (f .codes));
-      targets = aheadOf m y;
+      ahead = aheadOf m y;
     }
 
 -- a clock in which no bad status stands in W, from registers r and memory m as it began

@@ -29,11 +29,12 @@ use stage::working::memory_after;
 use stage::working::registers_after;
 ghost use mathlib.Core.Path.{_≡_};
 ghost use lib.ListN.{length};
-ghost use Rattle.clocked.specs.Pipeline.{memoryAfter, registersAfter};
+ghost use Rattle.clocked.specs.Prediction.{asIn01};
+ghost use Rattle.clocked.specs.Pipeline.{wrong as wrongOf, memoryAfter, registersAfter};
 ghost use Rattle.stage.specs.Forwarding.{sourcesD, targetsM, targetsW};
 ghost use Rattle.flow.specs.Moving.{aheadOf, signalsBy, fetchedIn, decodedIn, flowAfter};
 
-// F to W with the codes: what a clock works on, without registers and counts. Targets are worked out in E and carried beside M and W.
+// F to W with the codes: what a clock works on, without registers and counts.
 pub struct Flow {
     pub predicted: u64,
     pub d: StageD,
@@ -41,13 +42,14 @@ pub struct Flow {
     pub m: StageM,
     pub w: StageW,
     pub codes: Codes,
-    pub targets: Ahead,
+    pub ahead: Ahead,
 }
 
-// The targets of what stands in M and in W.
+// What is worked out in E and carried on from there: the targets of what stands in M and in W, and whether M holds a wrongly guessed jump.
 pub struct Ahead {
     pub m: Targets,
     pub w: Targets,
+    pub wrong: bool,
 }
 
 // What the controls go by.
@@ -77,10 +79,11 @@ fn signals_now(
     }
 }
 
-fn fetch_now(m: StageM, w: StageW, predicted: u64, memory: &[u8]) -> Instruction
+fn fetch_now(wrong: bool, m: StageM, w: StageW, predicted: u64, memory: &[u8]) -> Instruction
+    requires { ⌜ wrong ≡ wrongOf asIn01 m ⌝ }
     ensures { λ r. ⌜ r ≡ fetchedIn m w predicted (now (memory .entry)) ⌝ }
 {
-    instruction_at(memory, fetch_address(m, w, predicted))
+    instruction_at(memory, fetch_address(wrong, m, w, predicted))
 }
 
 // W writes its registers before decode reads them, so that nothing of W's has to be forwarded.
@@ -106,7 +109,7 @@ fn write_and_decode(
 
 // A clock in which no bad status stands in W: memory is read before its write.
 pub fn advance(flow: Flow, registers: &mut [u64; REGISTERS], memory: &mut [u8]) -> Flow
-    requires { ⌜ (length (now registers) ≡ 15) × (flow .targets ≡ aheadOf (flow .m) (flow .w)) ⌝ }
+    requires { ⌜ (length (now registers) ≡ 15) × (flow .ahead ≡ aheadOf (flow .m) (flow .w)) ⌝ }
     ensures { λ r. ⌜ (r ≡ flowAfter flow (now (registers .entry)) (now (memory .entry)))
         × (now (registers .exit) ≡ registersAfter (flow .w) (now (registers .entry)))
         × (now (memory .exit) ≡ memoryAfter (flow .m) (now (memory .entry))) ⌝ }
@@ -116,11 +119,11 @@ pub fn advance(flow: Flow, registers: &mut [u64; REGISTERS], memory: &mut [u8]) 
     let m = flow.m;
     let w = flow.w;
     let codes = flow.codes;
-    let ahead = flow.targets;
+    let ahead = flow.ahead;
     let in_m = ahead.m;
     let executed = after_e(e, codes);
     let accessed = after_m(m, memory);
-    let fetched = fetch_now(m, w, flow.predicted, memory);
+    let fetched = fetch_now(ahead.wrong, m, w, flow.predicted, memory);
     let targets = targets_m(executed);
     let sources = sources_d(d);
     let decoded = write_and_decode(d, sources, targets, executed, accessed, w, ahead, registers);
@@ -129,6 +132,7 @@ pub fn advance(flow: Flow, registers: &mut [u64; REGISTERS], memory: &mut [u8]) 
     let carried = Ahead {
         m: next_targets(s.fails, targets),
         w: in_m,
+        wrong: s.mispredicts & !s.fails,
     };
     Flow {
         predicted: next_f(s.waits | s.returns, flow.predicted, fetched),
@@ -137,6 +141,6 @@ pub fn advance(flow: Flow, registers: &mut [u64; REGISTERS], memory: &mut [u8]) 
         m: next_m(s.fails, executed),
         w: accessed,
         codes: next_codes(s.fails, e, codes),
-        targets: carried,
+        ahead: carried,
     }
 }

@@ -105,7 +105,7 @@ pub record Here (p₀ : Piped) (first : ℕ) (a₀ y₀ : List ℕ) (n : ℕ) (f
   pub entered : first + length entries ≡ t .retired
   pub timed : first + length times ≡ t .retired
   pub small : Small (262146 + n * 3) t
-  pub ahead : f .targets ≡ aheadOf (f .m) (f .w)
+  pub ahead : f .ahead ≡ aheadOf (f .m) (f .w)
   pub long : length r ≡ 15
 
 pub here-first : {f : Flow} {t : Tally} {x : Status} {r m a y : List ℕ} (k : Pipeline) → f ≡ flowOf k → length r ≡ 15 → t ≡ tallyOf k → countsRefused k ≡ false
@@ -132,7 +132,7 @@ module _ {p₀ : Piped} {first : ℕ} {a₀ y₀ : List ℕ} {n : ℕ} {f : Flow
     (ex : x′ ≡ statusAfter (f .w))
     (ea : a′ ≡ noted q (t .retired - first) (t′ .last) a) (ey : y′ ≡ noted q (t .retired - first) (t′ .cycles) y) (ev : v ≡ badInW (f .w)) where
   here-after : (f′ : Flow) (r′ m′ : List ℕ) → clock asIn01 (piped (whole f t x r) m (h .entries) (h .times)) ≡ after t (h .entries) (h .times) (f .w) f′ r′ m′
-      → f′ .targets ≡ aheadOf (f′ .m) (f′ .w) → length r′ ≡ 15 → Here p₀ first a₀ y₀ (n + 1) f′ t′ x′ r′ m′ a′ y′
+      → f′ .ahead ≡ aheadOf (f′ .m) (f′ .w) → length r′ ≡ 15 → Here p₀ first a₀ y₀ (n + 1) f′ t′ x′ r′ m′ a′ y′
   unfolding clocks tallyAfter
   here-after f′ r′ m′ e i l =
       let at : t .retired - first ≡ length (h .entries) = omega (arith, h .entered) in

@@ -22,6 +22,8 @@ use Rattle.clocked.specs.declared.StageW.the-variants.{BubbleW as bubbleW, InW 
 use Rattle.clocked.specs.declared.Kept.{Kept}
 use Rattle.clocked.specs.declared.Kept.the-variants.{NoneKept as noneKept, LastKept as lastKept}
 use Rattle.machine.specs.Table.{rowOf, is}
+use Rattle.clocked.specs.Prediction.{asIn01}
+use Rattle.clocked.specs.Pipeline.{wrong}
 use Rattle.clocked.specs.PipeRuns.{instructionRefused, refusedInD, refusedInE, refusedInM, refusedInW, refusedKept}
 use Rattle.machine.specs.Runs.{sizeRefused, budgetRefused, lowest}
 use Rattle.clocked.specs.PipeRuns.{countsRefused, recordRefused, pipeLimit}
@@ -121,7 +123,7 @@ unfolding noted
 not-retired b k x l t = cc
 
 -- THE RECORD
-pub flow-of-record : (p : Pipeline) (t u : Targets) → t ≡ targetsM (p .m) → u ≡ targetsW (p .w)
-    → record { predicted = p .predicted; d = p .d; e = p .e; m = p .m; w = p .w; codes = p .codes; targets = record { m = t; w = u } } ≡ flowOf p
+pub flow-of-record : (p : Pipeline) (t u : Targets) (b : Bool) → t ≡ targetsM (p .m) → u ≡ targetsW (p .w) → b ≡ wrong asIn01 (p .m)
+    → record { predicted = p .predicted; d = p .d; e = p .e; m = p .m; w = p .w; codes = p .codes; ahead = record { m = t; w = u; wrong = b } } ≡ flowOf p
 unfolding flowOf aheadOf
-flow-of-record p t u e f = cc
+flow-of-record p t u b e f h = cc

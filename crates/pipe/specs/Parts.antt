@@ -16,9 +16,9 @@ use Rattle.flow.specs.Moving.{aheadOf}
 use Rattle.retiring.specs.declared.Tally.{Tally}
 
 -- THE RECORD
--- what a clock moves, with the targets of M and W
+-- what a clock moves, with what is carried of M and W
 unfoldable pub flowOf : Pipeline → Flow
-flowOf p = record { predicted = p .predicted; d = p .d; e = p .e; m = p .m; w = p .w; codes = p .codes; targets = aheadOf (p .m) (p .w) }
+flowOf p = record { predicted = p .predicted; d = p .d; e = p .e; m = p .m; w = p .w; codes = p .codes; ahead = aheadOf (p .m) (p .w) }
 
 -- what a clock counts
 unfoldable pub tallyOf : Pipeline → Tally

@@ -13,6 +13,7 @@ use retiring::status_after;
 use stage::forwarding::targets_m;
 use stage::forwarding::targets_w;
 use stage::signals::bad_in_w;
+use stage::signals::wrong;
 ghost use mathlib.Core.Path.{_≡_};
 ghost use mathlib.Core.Bool.{false};
 ghost use Prim.Native.Nat.{_+_, _≤_};
@@ -30,9 +31,10 @@ fn flow_of(p: Pipeline) -> Flow
     let m = p.m;
     let w = p.w;
     let codes = p.codes;
-    let targets = Ahead {
+    let ahead = Ahead {
         m: targets_m(m),
         w: targets_w(w),
+        wrong: wrong(m),
     };
     Flow {
         predicted: p.predicted,
@@ -41,7 +43,7 @@ fn flow_of(p: Pipeline) -> Flow
         m,
         w,
         codes,
-        targets,
+        ahead,
     }
 }
 

@@ -217,15 +217,15 @@ pub no-m : (s : StageM) (f : ℕ) → s ≡ bubbleM → f ≡ mended asIn01 s f
 unfolding mended
 no-m s f h = cc
 
-pub mends : (s : StageM) (f v : ℕ) (x : Executed) (b : Bool) → s ≡ inM x → b ≡ mispredicted asIn01 (x .instruction) (x .holds) → b ≡ true
-    → v ≡ turned (x .instruction) (x .holds) → v ≡ mended asIn01 s f
-unfolding mended
+pub mends : (s : StageM) (f v : ℕ) (x : Executed) (b : Bool) → s ≡ inM x → b ≡ wrong asIn01 s → b ≡ true → v ≡ turned (x .instruction) (x .holds)
+    → v ≡ mended asIn01 s f
+unfolding wrong mended
 mends s f v x b h e t p = cc
 
-pub no-mend : (s : StageM) (f : ℕ) (x : Executed) (b : Bool) → s ≡ inM x → b ≡ mispredicted asIn01 (x .instruction) (x .holds) → b ≡ false
-    → f ≡ mended asIn01 s f
-unfolding mended
-no-mend s f x b h e t = cc
+pub no-mend : (s : StageM) (f : ℕ) (b : Bool) → b ≡ wrong asIn01 s → b ≡ false → f ≡ mended asIn01 s f
+unfolding wrong mended
+no-mend bubbleM f b e t = refl
+no-mend (inM x) f b e t = cc
 
 pub fetch-from : (s : StageM) (w : StageW) (f a b : ℕ) → a ≡ returnedTo w f → b ≡ mended asIn01 s a → b ≡ mended asIn01 s (returnedTo w f)
 fetch-from s w f a b p q = cc

@@ -1,5 +1,4 @@
 // Where the next instruction is fetched from, and where the one after it is expected.
-use crate::signals::mispredicted;
 use clocked::StageM;
 use clocked::StageW;
 use isa::executing::straight;
@@ -9,7 +8,7 @@ use machine::JUMP;
 use machine::RET;
 ghost use mathlib.Core.Path.{_≡_};
 ghost use Rattle.clocked.specs.Prediction.{asIn01, predictedNext};
-ghost use Rattle.clocked.specs.Pipeline.{returnedTo, mended as mendedOf};
+ghost use Rattle.clocked.specs.Pipeline.{returnedTo, wrong as wrongOf, mended as mendedOf};
 
 // The word that ret in W read, else the predicted address.
 fn returned_to(w: StageW, predicted: u64) -> u64
@@ -28,27 +27,29 @@ fn returned_to(w: StageW, predicted: u64) -> u64
     }
 }
 
-// The wrongly guessed jump in M goes before all else.
-fn mended(m: StageM, otherwise: u64) -> u64
+// The wrongly guessed jump in M goes before all else: wrong, found in E, says that M holds one.
+fn mended(wrong: bool, m: StageM, otherwise: u64) -> u64
+    requires { ⌜ wrong ≡ wrongOf asIn01 m ⌝ }
     ensures { λ r. ⌜ r ≡ mendedOf asIn01 m otherwise ⌝ }
 {
-    match m {
-        StageM::BubbleM => otherwise,
-        StageM::InM(x) => {
-            let i = x.instruction;
-            if mispredicted(i, x.holds) {
+    if wrong {
+        match m {
+            StageM::BubbleM => otherwise,
+            StageM::InM(x) => {
+                let i = x.instruction;
                 turned(i, x.holds)
-            } else {
-                otherwise
             }
         }
+    } else {
+        otherwise
     }
 }
 
-pub fn fetch_address(m: StageM, w: StageW, predicted: u64) -> u64
+pub fn fetch_address(wrong: bool, m: StageM, w: StageW, predicted: u64) -> u64
+    requires { ⌜ wrong ≡ wrongOf asIn01 m ⌝ }
     ensures { λ r. ⌜ r ≡ mendedOf asIn01 m (returnedTo w predicted) ⌝ }
 {
-    mended(m, returned_to(w, predicted))
+    mended(wrong, m, returned_to(w, predicted))
 }
 
 pub fn predicted_next(i: Instruction) -> u64

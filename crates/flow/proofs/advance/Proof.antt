@@ -1,9 +1,12 @@
--- A clock of all stages. What each call gave goes into the one law `Ways` `flow-is`; memory and registers are those that the writes left. The `let`s
--- name the record of facts behind a call, in the order of the code from `start` on.
-use Rattle.flow.proofs.Ways.{carried-on, flow-is}
+-- A clock of all stages. What each call gave goes into the one law `Ways` `flow-is`; memory and registers are those that the writes left. A `let` names
+-- the record of facts behind a call by its type, for which `search` finds the place.
+use Rattle.flow.proofs.Ways.{wrong-carried, m-carried, w-carried, flow-is}
 use borrow.Author.Needs.{needs}
 use Rattle.flow.proofs.advance.Statement.{statement}
 use Rattle.flow.proofs.advance.Tie as tie
+
+start-of : tie.After-after-e → tie.Start
+start-of c = search
 
 after-e-requires : tie.Need-after-e-requires
 after-e-requires c κs = search needs
@@ -12,7 +15,7 @@ after-m-requires : tie.Need-after-m-requires
 after-m-requires c κs = search needs
 
 fetch-now-requires : tie.Need-fetch-now-requires
-fetch-now-requires c κs = search needs
+fetch-now-requires c κs = search (needs, wrong-carried)
 
 targets-m-requires : tie.Need-targets-m-requires
 targets-m-requires c κs = search needs
@@ -22,11 +25,9 @@ sources-d-requires c κs = search needs
 
 write-and-decode-requires : tie.Need-write-and-decode-requires
 write-and-decode-requires c κs =
-    let sources = c .before in
-    let access = sources .before .before .before .before in
-    let start = access .before .before .before .before .before .before .before in
-    let ahead = carried-on _ _ _ _ _ (start .pre .1) (access .after-m .ensures) in
-    (start .pre .0, sources .sources-d .ensures, sources .before .targets-m .ensures, ahead .0, ahead .1)
+    let accessed : tie.After-after-m = search in
+    let start : tie.Start = search in
+    (search needs, search needs, search needs, search (needs, m-carried), search (needs, w-carried))
 
 memory-after-requires : tie.Need-memory-after-requires
 memory-after-requires c κs = search needs
@@ -56,23 +57,27 @@ same-length : tie.Need-same-length
 same-length c = search needs
 
 returns : tie.Need-returns
+unfolding start-of
 returns c =
-    let controls = c .before .before .before .before in
-    let signals = controls .before .before .before .before in
-    let write = signals .before .before .before in
-    let decode = write .before .before in
-    let sources = decode .before .before in
-    let fetch = sources .before .before in
-    let access = fetch .before .before in
-    let first = access .before .before in
-    let start = first .before .before .before .before .before in (
-      flow-is _ (start .pre .1) _ _ _ _ _ _ _ _ _ (first .after-e .ensures) (access .after-m .ensures) (fetch .fetch-now .ensures)
-          (sources .before .targets-m .ensures)
-          (sources .sources-d .ensures) (decode .write-and-decode .ensures .0) (signals .signals-now .ensures) _ _ _ _ _ _ (controls .before .next-f .ensures)
-          (controls .next-d .ensures)
-          (c .before .before .next-e .ensures) (c .before .next-m .ensures) (c .next-codes .ensures) (controls .before .before .before .next-targets .ensures),
-      decode .write-and-decode .ensures .1,
-      write .memory-after .ensures,
+    let to-m : tie.After-next-m = search in
+    let to-e : tie.After-next-e = search in
+    let to-d : tie.After-next-d = search in
+    let to-f : tie.After-next-f = search in
+    let carried : tie.After-next-targets = search in
+    let signals : tie.After-signals-now = search in
+    let written : tie.After-memory-after = search in
+    let decoded : tie.After-write-and-decode = search in
+    let sources : tie.After-sources-d = search in
+    let targets : tie.After-targets-m = search in
+    let fetched : tie.After-fetch-now = search in
+    let accessed : tie.After-after-m = search in
+    let executed : tie.After-after-e = search in (
+      flow-is _ _ _ (start-of executed .pre .1) (executed .after-e .ensures) (accessed .after-m .ensures) (fetched .fetch-now .ensures)
+          (targets .targets-m .ensures) (sources .sources-d .ensures) (decoded .write-and-decode .ensures .0) (signals .signals-now .ensures)
+          (to-f .next-f .ensures) (to-d .next-d .ensures) (to-e .next-e .ensures) (to-m .next-m .ensures) (c .next-codes .ensures)
+          (carried .next-targets .ensures),
+      decoded .write-and-decode .ensures .1,
+      written .memory-after .ensures,
     )
 
 pub advance-spec : {M : Type 1} → statement M

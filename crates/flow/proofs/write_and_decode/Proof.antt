@@ -10,11 +10,7 @@ decode-d-requires : tie.Need-decode-d-requires
 decode-d-requires c κs = search needs
 
 returns : tie.Need-returns
-returns c =
-    let back = c .before .before in
-    let start = back .before .before .before .before in
-    let write = registers-are _ _ _ _ _ _ _ _ _ (start .pre) (back .registers-after .ensures) in
-    (decoded-now _ _ _ _ _ _ _ _ _ (start .pre) (back .registers-after .ensures) _ (c .decode-d .ensures), write)
+returns c = (search (needs, decoded-now), search (needs, registers-are))
 
 pub write-and-decode-spec : {M : Type 1} → statement M
 write-and-decode-spec = tie.close (tie.spec registers-after-requires decode-d-requires returns)

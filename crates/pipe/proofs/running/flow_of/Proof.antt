@@ -9,8 +9,11 @@ targets-m-requires c κs = search needs
 targets-w-requires : tie.Need-targets-w-requires
 targets-w-requires c κs = search needs
 
+wrong-requires : tie.Need-wrong-requires
+wrong-requires c κs = search needs
+
 returns : tie.Need-returns
 returns c = search (needs, flow-of-record)
 
 pub flow-of-spec : {M : Type 1} → statement M
-flow-of-spec = tie.close (tie.spec targets-m-requires targets-w-requires returns)
+flow-of-spec = tie.close (tie.spec targets-m-requires targets-w-requires wrong-requires returns)

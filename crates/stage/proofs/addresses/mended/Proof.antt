@@ -9,9 +9,6 @@ enum-told c = search needs
 enum-known-m : tie.Need-enum-known-m
 enum-known-m c = search needs
 
-mispredicted-requires : tie.Need-mispredicted-requires
-mispredicted-requires c κs = search needs
-
 turned-requires : tie.Need-turned-requires
 turned-requires c κs = search needs
 
@@ -26,12 +23,4 @@ returns-3 c = search (needs, no-mend)
 
 pub mended-spec : {M : Type 1} → statement M
 mended-spec =
-    tie.close
-    (tie.spec
-    enum-told
-    enum-known-m
-    mispredicted-requires
-    turned-requires
-    returns
-    returns-2
-    returns-3)
+    tie.close (tie.spec enum-told enum-known-m turned-requires returns returns-2 returns-3)
