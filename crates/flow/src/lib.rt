@@ -26,6 +26,7 @@ use stage::signals::ret_on_the_way;
 use stage::signals::wrong;
 use stage::working::after_e;
 use stage::working::after_m;
+use stage::working::kind_m;
 use stage::working::memory_after;
 use stage::working::registers_after;
 ghost use mathlib.Core.Path.{_≡_};
@@ -131,12 +132,13 @@ pub fn advance(
     let ahead = flow.ahead;
     let in_m = ahead.m;
     let executed = after_e(e, codes);
-    let accessed = after_m(m, memory);
+    let kind = kind_m(m);
+    let accessed = after_m(kind, m, memory);
     let fetched = fetch_now(ahead.wrong, m, w, flow.predicted, memory);
     let targets = targets_m(executed);
     let sources = sources_d(d);
     let decoded = write_and_decode(d, sources, targets, executed, accessed, w, ahead, registers);
-    memory_after(m, memory);
+    memory_after(kind, m, memory);
     let s = signals_now(settings, sources, targets, d, e, m, executed, accessed);
     let carried = Ahead {
         m: next_targets(s.fails, targets),

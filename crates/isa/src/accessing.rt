@@ -1,4 +1,4 @@
-// The memory stage. The table is read once for an access, and its number handed on.
+// The memory stage. The table is read once for an access and its write, and its number handed on.
 use lookup::accesses_of;
 use lookup::numbers::LOADS_AT_A;
 use lookup::numbers::LOADS_AT_E;
@@ -13,6 +13,14 @@ ghost use mathlib.Core.Bool.{cond};
 ghost use Rattle.machine.specs.Memory.{load as loadOf};
 ghost use Rattle.machine.specs.Stages.{loads, accessAddress, storedWord, accessStatus, access as accessOf, newMemory};
 ghost use Rattle.isa.specs.Decisions.{accessKind};
+
+// The number of an instruction's access.
+pub fn access_kind(x: Executed) -> u8
+    ensures { λ r. ⌜ r ≡ accessKind x ⌝ }
+{
+    let i = x.instruction;
+    accesses_of(i.code)
+}
 
 // popq and ret load from the old rsp.
 fn access_address(kind: u8, x: Executed) -> u64
@@ -63,11 +71,11 @@ fn loaded_word(kind: u8, x: Executed, memory: &[u8]) -> u64
     }
 }
 
-pub fn access(x: Executed, memory: &[u8]) -> Accessed
+pub fn access(kind: u8, x: Executed, memory: &[u8]) -> Accessed
+    requires { ⌜ kind ≡ accessKind x ⌝ }
     ensures { λ r. ⌜ r ≡ accessOf x (now (memory .entry)) ⌝ }
 {
     let i = x.instruction;
-    let kind = accesses_of(i.code);
     let word = loaded_word(kind, x, memory);
     let status = access_status(kind, x, memory);
     Accessed {
@@ -80,11 +88,10 @@ pub fn access(x: Executed, memory: &[u8]) -> Accessed
 }
 
 // The clock's or the step's write.
-pub fn update(x: Executed, memory: &mut [u8])
+pub fn update(kind: u8, x: Executed, memory: &mut [u8])
+    requires { ⌜ kind ≡ accessKind x ⌝ }
     ensures { λ _. ⌜ now (memory .exit) ≡ newMemory x (now (memory .entry)) ⌝ }
 {
-    let i = x.instruction;
-    let kind = accesses_of(i.code);
     let stores = (kind == STORES_A) | (kind == STORES_NEXT);
     if stores {
         word::store(memory, access_address(kind, x), stored_word(kind, x));

@@ -1,6 +1,7 @@
 // The plain engine: one instruction at a time.
 use fetching::instruction_at;
 use isa::accessing::access;
+use isa::accessing::access_kind;
 use isa::accessing::update;
 use isa::decoding::is_bad;
 use isa::decoding::loaded_target;
@@ -130,12 +131,13 @@ fn advance(m: Machine, memory: &mut [u8]) -> Machine
     let x = decoded(m, i);
     let codes = m.codes;
     let e = execute(x, codes);
-    let w = access(e, memory);
+    let kind = access_kind(e);
+    let w = access(kind, e, memory);
     let status = w.status;
     if is_bad(status) {
         return after_stop(m, status);
     }
-    update(e, memory);
+    update(kind, e, memory);
     after_performed(m, x, w)
 }
 

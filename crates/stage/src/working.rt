@@ -6,6 +6,7 @@ use clocked::StageE;
 use clocked::StageM;
 use clocked::StageW;
 use isa::accessing::access;
+use isa::accessing::access_kind;
 use isa::accessing::update;
 use isa::decoding::write;
 use isa::executing::execute;
@@ -14,7 +15,7 @@ use machine::Codes;
 use machine::REGISTERS;
 ghost use mathlib.Core.Path.{_≡_};
 ghost use Rattle.clocked.specs.Pipeline.{afterE, afterM, codesAfter, memoryAfter};
-ghost use Rattle.stage.specs.Forwarding.{writtenBy};
+ghost use Rattle.stage.specs.Forwarding.{kindM, writtenBy};
 
 // E's instruction after execution, on the codes as the clock began.
 pub fn after_e(e: StageE, codes: Codes) -> StageM
@@ -26,13 +27,24 @@ pub fn after_e(e: StageE, codes: Codes) -> StageM
     }
 }
 
+// The number of M's access in the table, read once for the access and the clock's write.
+pub fn kind_m(m: StageM) -> u8
+    ensures { λ r. ⌜ r ≡ kindM m ⌝ }
+{
+    match m {
+        StageM::BubbleM => 0,
+        StageM::InM(x) => access_kind(x),
+    }
+}
+
 // M's instruction after its access, which reads memory before the clock's write.
-pub fn after_m(m: StageM, memory: &[u8]) -> StageW
+pub fn after_m(kind: u8, m: StageM, memory: &[u8]) -> StageW
+    requires { ⌜ kind ≡ kindM m ⌝ }
     ensures { λ r. ⌜ r ≡ afterM m (now (memory .entry)) ⌝ }
 {
     match m {
         StageM::BubbleM => StageW::BubbleW,
-        StageM::InM(x) => StageW::InW(access(x, memory)),
+        StageM::InM(x) => StageW::InW(access(kind, x, memory)),
     }
 }
 
@@ -46,12 +58,13 @@ pub fn codes_after(e: StageE, codes: Codes) -> Codes
 }
 
 // The clock's write.
-pub fn memory_after(m: StageM, memory: &mut [u8])
+pub fn memory_after(kind: u8, m: StageM, memory: &mut [u8])
+    requires { ⌜ kind ≡ kindM m ⌝ }
     ensures { λ _. ⌜ now (memory .exit) ≡ memoryAfter m (now (memory .entry)) ⌝ }
 {
     match m {
         StageM::BubbleM => {}
-        StageM::InM(x) => update(x, memory),
+        StageM::InM(x) => update(kind, x, memory),
     }
 }
 

@@ -11,6 +11,9 @@ start-of c = search
 after-e-requires : tie.Need-after-e-requires
 after-e-requires c κs = search needs
 
+kind-m-requires : tie.Need-kind-m-requires
+kind-m-requires c κs = search needs
+
 after-m-requires : tie.Need-after-m-requires
 after-m-requires c κs = search needs
 
@@ -85,6 +88,7 @@ advance-spec =
     tie.close
     (tie.spec
     after-e-requires
+    kind-m-requires
     after-m-requires
     fetch-now-requires
     targets-m-requires

@@ -1,4 +1,4 @@
-use Rattle.stage.proofs.Ways.{m-bubble, m-works}
+use Rattle.stage.proofs.Ways.{kind-in, m-bubble, m-works}
 use borrow.Author.Needs.{needs}
 use Rattle.stage.proofs.working.after_m.Statement.{statement}
 use Rattle.stage.proofs.working.after_m.Tie as tie
@@ -10,7 +10,7 @@ enum-known-m : tie.Need-enum-known-m
 enum-known-m c = search needs
 
 access-requires : tie.Need-access-requires
-access-requires c κs = search needs
+access-requires c κs = search (needs, kind-in)
 
 returns : tie.Need-returns
 returns c = search (needs, m-bubble)

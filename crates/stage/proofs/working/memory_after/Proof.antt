@@ -1,4 +1,4 @@
-use Rattle.stage.proofs.Ways.{memory-stays, memory-new}
+use Rattle.stage.proofs.Ways.{kind-in, memory-stays, memory-new}
 use borrow.Author.Needs.{needs}
 use Rattle.stage.proofs.working.memory_after.Statement.{statement}
 use Rattle.stage.proofs.working.memory_after.Tie as tie
@@ -10,7 +10,7 @@ enum-known-m : tie.Need-enum-known-m
 enum-known-m c = search needs
 
 update-requires : tie.Need-update-requires
-update-requires c κs = search needs
+update-requires c κs = search (needs, kind-in)
 
 returns : tie.Need-returns
 returns c = search (needs, memory-stays)
