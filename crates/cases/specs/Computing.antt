@@ -1,7 +1,9 @@
 -- What computes in this crate: all of machine, and the host edge.
 use Rattle.clocked.specs.Computing
+use Rattle.block.specs.Block
+use Rattle.replay_ends.specs.Ends
 use Rattle.edge.specs.Edge
 
 unfoldable pub computing : Unit {0}
-unfolding Computing.computing Edge.wordsIn Edge.withWords Edge.codesFrom Edge.edgeRefusal Edge.resultWords Edge.edgeDone Edge.edgeRun Edge.replayed
+unfolding Computing.computing Block.wordsIn Block.withWords Block.codesFrom Ends.edgeRefusal Ends.resultWords Edge.edgeDone Edge.edgeRun Edge.replayed
 computing = tt

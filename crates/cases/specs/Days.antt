@@ -12,7 +12,7 @@ use Rattle.machine.specs.Words.{signed}
 use Rattle.peaks.specs.Types.{comparisonNumber}
 use Rattle.peaks.specs.Day.{isGood, good, failed, total, largest, firstPlace, peakOf, placeOf, meanOf, meanBits, bySign, compared, rawOf, foundIn}
 use Rattle.peaks.specs.Day.{dayOf, refusalOf}
-use Rattle.edge.specs.Days.{wordsOf, dayWords}
+use Rattle.day_edge.specs.Days.{wordsOf, dayWords}
 
 unfoldable pub same : List ℕ → List ℕ → Bool
 same [] [] = true

@@ -4,7 +4,8 @@ use mathlib.Core.List.{List, [], _∷_}
 use mathlib.Core.Path.{refl}
 use lib.ListN.{getD, drop, replicate}
 use Rattle.machine.specs.Memory.{Memory}
-use Rattle.edge.specs.Edge.{Edge, edge, wordsIn, withWords}
+use Rattle.block.specs.Block.{wordsIn, withWords}
+use Rattle.edge.specs.Edge.{Edge, edge}
 use Rattle.cases.specs.Promises.{host-edge}
 use Rattle.cases.specs.Computing.{computing}
 use Rattle.cases.specs.Wrong.{FallsFoul, refused, differs}

@@ -8,7 +8,8 @@ use lib.Dec.{eqb}
 use lib.ListN.{length, replicate}
 use Rattle.machine.specs.Words.{number}
 use Rattle.machine.specs.Memory.{Memory}
-use Rattle.edge.specs.Edge.{Edge, edge, edgeRefusal, replayed}
+use Rattle.replay_ends.specs.Ends.{edgeRefusal}
+use Rattle.edge.specs.Edge.{Edge, edge, replayed}
 use Rattle.records.specs.Given.{image}
 use Rattle.records.specs.Looks.{Row, Look, answers, numbers, failing}
 use Rattle.cases.specs.Computing.{computing}

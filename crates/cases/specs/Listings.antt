@@ -5,7 +5,7 @@ use Prim.Native.Nat.{ℕ}
 use Rattle.machine.specs.Memory.{Memory}
 use Rattle.text.specs.Parts.{Text}
 use Rattle.listing.specs.Reading.{Answered, listed}
-use Rattle.edge.specs.Listings.{ListingEdge, listingRead}
+use Rattle.listing_edge.specs.Listings.{ListingEdge, listingRead}
 use Rattle.cases.specs.Promises.{Operation}
 use Rattle.cases.specs.Single.{OneAnswer}
 

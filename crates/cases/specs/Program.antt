@@ -7,8 +7,9 @@ use Rattle.machine.specs.Memory.{Memory}
 use Rattle.text.specs.Bytes.{bytes}
 use Rattle.text.specs.Decimal.{digits, decimal}
 use Rattle.text.specs.Put.{written}
-use Rattle.report.specs.Report.{line, statusText, statusLine, registerNames, registerName, registerLine, registerLines}
-use Rattle.report.specs.Report.{countLines, kindLines, endLines, report, imageRun, reported, replayed}
+use Rattle.report_lines.specs.Lines.{line, statusText, statusLine, countLines, kindLines}
+use Rattle.register_lines.specs.Registers.{registerNames, registerName, registerLine, registerLines}
+use Rattle.report.specs.Report.{endLines, report, imageRun, reported, replayed}
 use Rattle.cases.specs.Names.{Pipeline}
 use Rattle.cases.specs.Computing.{computing}
 use Rattle.cases.specs.Promises.{Operation}

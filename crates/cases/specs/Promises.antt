@@ -13,7 +13,7 @@ use Rattle.account.specs.Statement.{Start}
 use Rattle.peaks.specs.declared.Answer.{Answer}
 use Rattle.peaks.specs.Day.{judged}
 use Rattle.edge.specs.Edge.{Edge, replayed}
-use Rattle.edge.specs.Days.{DayAt, dayAnswer}
+use Rattle.day_edge.specs.Days.{DayAt, dayAnswer}
 use Rattle.dayreport.specs.Program.{answeredInput}
 use Rattle.together.specs.Both.{BothAnswer, bothRuns}
 use Rattle.cases.specs.Names.{Codes, FetchAnswer, Machine, Pipeline}

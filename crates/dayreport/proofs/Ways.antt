@@ -22,7 +22,8 @@ use Rattle.peaks.specs.declared.Answer.{Answer}
 use Rattle.peaks.specs.declared.Answer.the-variants.{Refused as refused, Judged as judgedAs}
 use Rattle.peaks.specs.Day.{meanBits, judged}
 use Rattle.peaks.specs.Division.{meanIsNumber, judged-number}
-use Rattle.report.specs.Report.{numberLine, imageRun}
+use Rattle.report_lines.specs.Lines.{numberLine}
+use Rattle.report.specs.Report.{imageRun}
 use Rattle.text.specs.Put.{Put, put-both, put-front, written}
 use Rattle.dayreport.specs.declared.line.Request.{Request}
 use Rattle.dayreport.specs.declared.line.FirstLine.{FirstLine}

@@ -12,7 +12,7 @@ use Rattle.peaks.specs.declared.Day.{Day}
 use Rattle.peaks.specs.declared.Answer.{Answer}
 use Rattle.peaks.specs.declared.Answer.the-variants.{Refused as refused, Judged as judgedAs}
 use Rattle.peaks.specs.Day.{meanBits}
-use Rattle.report.specs.Report.{line, numberLine}
+use Rattle.report_lines.specs.Lines.{line, numberLine}
 use Rattle.text.specs.Bytes.{bytes}
 
 -- a filed peak that cannot be compared is not below, at or above

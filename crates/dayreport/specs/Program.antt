@@ -9,7 +9,8 @@ use Rattle.peaks.specs.declared.Answer.{Answer}
 use Rattle.peaks.specs.declared.Answer.the-variants.{Refused as refused, Judged as judgedAs}
 use Rattle.peaks.specs.Day.{judged}
 use Rattle.peaks.specs.Division.{meanIsNumber}
-use Rattle.report.specs.Report.{numberLine, imageRun}
+use Rattle.report_lines.specs.Lines.{numberLine}
+use Rattle.report.specs.Report.{imageRun}
 use Rattle.dayreport.specs.declared.line.Request.{Request}
 use Rattle.dayreport.specs.declared.line.FirstLine.{FirstLine}
 use Rattle.dayreport.specs.declared.line.FirstLine.the-variants.{BadLine as badLine, Asks as asks}

@@ -3,7 +3,7 @@ use peaks::Comparison;
 use peaks::Day;
 use peaks::Found;
 use peaks::Raw;
-use report::put_number;
+use report_lines::put_number;
 use text::put_text;
 ghost use mathlib.Core.Bool.{not};
 ghost use Prim.Native.Nat.{_+_, _^_, _≤_, _<_};

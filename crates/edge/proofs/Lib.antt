@@ -1,4 +1,1 @@
-pub mod Blocks
 pub mod Ways
-pub mod Faults
-pub mod Judging

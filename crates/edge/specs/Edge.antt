@@ -1,42 +1,15 @@
 -- The host edge: "It lends memory, registers, result; it gives start address, codes as 4ZF + 2SF + OF, and cycle budget."
-use Prim.Native.Nat.{ℕ, zero, suc, _+_, _/_, _%_}
-use mathlib.Core.Bool.{cond, not}
-use mathlib.Core.List.{List, [], _∷_}
-use lib.Dec.{eqb, ltb}
+use Prim.Native.Nat.{ℕ}
+use mathlib.Core.Bool.{cond}
+use mathlib.Core.List.{List}
+use lib.Dec.{eqb}
 use lib.ListN.{length}
-use Rattle.machine.specs.declared.Codes.{Codes}
-use Rattle.clocked.specs.declared.Pipeline.{Pipeline}
-use Rattle.machine.specs.Types.{statusNumber, codesNumber}
-use Rattle.machine.specs.Words.{number, placed}
 use Rattle.machine.specs.Memory.{Memory}
 use Rattle.clocked.specs.Prediction.{asIn01}
 use Rattle.clocked.specs.Pipeline.{pipeStart}
-use Rattle.machine.specs.Runs.{sizeRefused, budgetRefused, lowest}
-use Rattle.clocked.specs.PipeRuns.{pipeLimit, PipeAnswer, pipeRunUnlogged}
-
--- the n words in the bytes b from a on
-unfoldable pub wordsIn : ℕ → List ℕ → ℕ → List ℕ
-wordsIn zero b a = []
-wordsIn (suc n) b a = number 8 b a ∷ wordsIn n b (a + 8)
-
--- the bytes b with the words ws from a on
-unfoldable pub withWords : List ℕ → List ℕ → ℕ → List ℕ
-withWords [] b a = b
-withWords (w ∷ ws) b a = withWords ws (placed 8 b a w) (a + 8)
-
--- the codes of a number 4ZF + 2SF + OF
-unfoldable pub codesFrom : ℕ → Codes
-codesFrom n = record { zf = eqb (n / 4) 1; sf = eqb (n / 2 % 2) 1; of = eqb (n % 2) 1 }
-
--- refusal 2: "registers not 120 bytes"; 4: "result block not 40 bytes"; 5: "codes over 7". At a fresh start no cycle is counted yet
-unfoldable pub edgeRefusal : (memory registers result codes budget : ℕ) → ℕ
-edgeRefusal memory registers result codes budget =
-    lowest
-    ((1, sizeRefused memory) ∷ (2, not (eqb registers 120)) ∷ (3, budgetRefused pipeLimit 0 budget) ∷ (4, not (eqb result 40)) ∷ (5, ltb 7 codes) ∷ [])
-
--- "Result words: status (AOK if the budget was spent), last address, codes, retired, cycles."
-unfoldable pub resultWords : Pipeline → List ℕ
-resultWords k = statusNumber (k .status) ∷ k .last ∷ codesNumber (k .codes) ∷ k .retired ∷ k .cycles ∷ []
+use Rattle.clocked.specs.PipeRuns.{PipeAnswer, pipeRunUnlogged}
+use Rattle.block.specs.Block.{wordsIn, withWords, codesFrom}
+use Rattle.replay_ends.specs.Ends.{edgeRefusal, resultWords}
 
 -- the answer, and what the three lent slices hold
 pub record Edge : Type 0 where

@@ -1,4 +1,2 @@
 pub mod Edge
 pub mod Checked
-pub mod Listings
-pub mod Days

@@ -16,7 +16,8 @@ use Rattle.clocked.specs.PipeRuns.{refusedInW, refusedKept, pipeRefusal, pipeDo
 use Rattle.text.specs.Bytes.{bytes}
 use Rattle.text.specs.Put.{written-within}
 use Rattle.text.specs.Decimal.{digits, decimal}
-use Rattle.report.specs.Report.{line, report, imageRun, reported, replayed}
+use Rattle.report_lines.specs.Lines.{line}
+use Rattle.report.specs.Report.{report, imageRun, reported, replayed}
 
 -- an image is refused only for its size
 pub refused-by-size : (image : Memory) → imageRun image .number ≡ cond (sizeRefused (length image)) 1 0

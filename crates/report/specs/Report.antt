@@ -1,79 +1,17 @@
--- Document 01's "Program": what it runs, and the exact lines that it writes.
-use Prim.Native.Nat.{ℕ, zero, suc}
-use Prim.Native.String.{String}
+-- Document 01's "Program": what it runs, and what it writes, line by line.
+use Prim.Native.Nat.{ℕ}
 use mathlib.Core.Bool.{true, false, cond}
-use mathlib.Core.List.{List, [], _∷_, _++_}
+use mathlib.Core.List.{List, _++_}
 use lib.Dec.{eqb}
-use lib.ListN.{length, getD, replicate, drop}
-use Rattle.machine.specs.declared.Status.{Status}
-use Rattle.machine.specs.declared.Status.the-variants.{Aok as aok, Hlt as hlt, Adr as adr, Ins as ins}
-use Rattle.clocked.specs.declared.Kinds.{Kinds}
+use lib.ListN.{length, replicate, drop}
 use Rattle.clocked.specs.declared.Pipeline.{Pipeline}
-use Rattle.machine.specs.Types.{codesNumber}
 use Rattle.machine.specs.Memory.{Memory}
 use Rattle.clocked.specs.Prediction.{asIn01}
 use Rattle.clocked.specs.Pipeline.{pipeStart}
 use Rattle.clocked.specs.PipeRuns.{PipeAnswer, pipeRunUnlogged}
 use Rattle.text.specs.Bytes.{bytes}
-use Rattle.text.specs.Decimal.{decimal}
-
--- "one tab after each name, a line end after each"
-unfoldable pub line : (name value : List ℕ) → List ℕ
-line name value = name ++ bytes "\t" ++ value ++ bytes "\n"
-
-abbrev pub numberLine : String → ℕ → List ℕ
-numberLine name n = line (bytes name) (decimal n)
-
-unfoldable pub statusText : Status → String
-statusText aok = "AOK"
-statusText hlt = "HLT"
-statusText adr = "ADR"
-statusText ins = "INS"
-
-unfoldable pub statusLine : Status → List ℕ
-statusLine s = line (bytes "stat") (bytes (statusText s))
-
--- "Fifteen registers .. 0 to 14: rax rcx rdx rbx rsp rbp rsi rdi r8 to r14"
-unfoldable pub registerNames : List String
-registerNames =
-    "rax"
-    ∷ "rcx"
-    ∷ "rdx"
-    ∷ "rbx"
-    ∷ "rsp"
-    ∷ "rbp"
-    ∷ "rsi"
-    ∷ "rdi"
-    ∷ "r8"
-    ∷ "r9"
-    ∷ "r10"
-    ∷ "r11"
-    ∷ "r12"
-    ∷ "r13"
-    ∷ "r14"
-    ∷ []
-
-unfoldable pub registerName : ℕ → String
-registerName k = getD registerNames k ""
-
--- "Then `reg`, name, unsigned value for each register not 0"
-unfoldable pub registerLine : ℕ → ℕ → List ℕ
-registerLine k v = cond (eqb v 0) [] (bytes "reg" ++ bytes "\t" ++ numberLine (registerName k) v)
-
--- "in number order": the lines of the registers below k
-unfoldable pub registerLines : ℕ → List ℕ → List ℕ
-registerLines zero registers = []
-registerLines (suc k) registers = registerLines k registers ++ registerLine k (getD registers k 0)
-
-unfoldable pub countLines : Pipeline → List ℕ
-countLines p =
-    numberLine "last" (p .last)
-    ++ numberLine "codes" (codesNumber (p .codes))
-    ++ numberLine "retired" (p .retired)
-    ++ numberLine "cycles" (p .cycles)
-
-unfoldable pub kindLines : Kinds → List ℕ
-kindLines k = numberLine "loaduse" (k .loaduse) ++ numberLine "mispredict" (k .mispredict) ++ numberLine "return" (k .returned)
+use Rattle.report_lines.specs.Lines.{line, numberLine, statusLine, countLines, kindLines}
+use Rattle.register_lines.specs.Registers.{registerLines}
 
 -- the lines of a run that was not refused, behind the first
 unfoldable pub endLines : Pipeline → List ℕ

@@ -19,7 +19,9 @@ use Rattle.account.specs.Theorem.{demand3}
 use Rattle.account.specs.Uses.{due-only, due-stopped, untouched-on, always}
 use Rattle.account.specs.Midrun.{Landed, in-mid-run}
 use Rattle.account.specs.TwoRuns.{unlogged-ran}
-use Rattle.edge.specs.Edge.{Edge, edge, wordsIn, withWords, codesFrom, edgeRefusal, resultWords, edgeDone, edgeRun, replayed}
+use Rattle.block.specs.Block.{wordsIn, withWords, codesFrom}
+use Rattle.replay_ends.specs.Ends.{edgeRefusal, resultWords}
+use Rattle.edge.specs.Edge.{Edge, edge, edgeDone, edgeRun, replayed}
 use Rattle.edge.specs.Checked.{runs-inside}
 
 -- "until the stop, and none after": the cycles counted in so many clocks, when n instructions have retired

@@ -1,6 +1,7 @@
 -- A refusal by `refuses`; else what was let in is run from a fresh start and written back, by `replays`. The `let`s name the record of facts behind
 -- each call: `tested` where nothing was refused, `read`, `codes` and `fresh` for the start, `run`, `written` and `answered` for the end.
-use Rattle.edge.proofs.Ways.{allowed, refuses, replays}
+use Rattle.replay_ends.specs.Allowed.{allowed}
+use Rattle.edge.proofs.Ways.{refuses, replays}
 use borrow.Author.Needs.{needs}
 use Rattle.edge.proofs.y86_replay.Statement.{statement}
 use Rattle.edge.proofs.y86_replay.Tie as tie

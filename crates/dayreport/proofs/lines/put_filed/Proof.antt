@@ -1,6 +1,6 @@
 use Rattle.dayreport.proofs.Ways.{filed-line}
 use Rattle.text.specs.Bytes.{bytes}
-use Rattle.report.specs.Report.{line}
+use Rattle.report_lines.specs.Lines.{line}
 use Rattle.dayreport.specs.Lines.{filedText, filedLine}
 use Rattle.peaks.specs.declared.Comparison.the-variants.{Below as below, At as at, Above as above, NotComparable as notComparable}
 use native.Mathlib.Omega.{arith}

@@ -1,6 +1,6 @@
 use Rattle.dayreport.proofs.Ways.{missed}
 use Rattle.text.specs.Bytes.{bytes}
-use Rattle.report.specs.Report.{line}
+use Rattle.report_lines.specs.Lines.{line}
 use Rattle.dayreport.specs.Lines.{missing}
 use native.Mathlib.Omega.{arith}
 use borrow.Author.Needs.{needs}

@@ -1,0 +1,63 @@
+// Both ends of a replay: what it is refused for, and what it leaves in the lent blocks.
+use block::status_number;
+use block::write_words;
+use clocked::PIPE_LIMIT;
+use clocked::Pipeline;
+ghost use mathlib.Core.Path.{_≡_};
+ghost use lib.ListN.{length};
+ghost use Rattle.block.specs.Block.{withWords};
+ghost use Rattle.replay_ends.specs.Ends.{edgeRefusal, resultWords};
+
+// The lent blocks: fifteen registers, and five result words; and the greatest number that codes have.
+const REGISTER_BYTES: usize = 120;
+
+const RESULT_BYTES: usize = 40;
+
+const MOST_CODES: u64 = 7;
+
+// The lowest refusal that applies, or 0.
+pub fn refusal(memory: usize, registers: usize, result: usize, codes: u64, budget: u64) -> u64
+    ensures { λ r. ⌜ r ≡ edgeRefusal memory registers result codes budget ⌝ }
+{
+    if answers::size_refused(memory) {
+        return 1;
+    }
+    if registers != REGISTER_BYTES {
+        return 2;
+    }
+    if answers::budget_refused(PIPE_LIMIT, 0, budget) {
+        return 3;
+    }
+    if result != RESULT_BYTES {
+        return 4;
+    }
+    if MOST_CODES < codes {
+        return 5;
+    }
+    0
+}
+
+// The five result words.
+pub fn write_result(result: &mut [u8], end: Pipeline)
+    requires { ⌜ length (now result) ≡ 40 ⌝ }
+    ensures { λ _. ⌜ now (result .exit) ≡ withWords (resultWords end) (now (result .entry)) 0 ⌝ }
+{
+    let status = end.status;
+    let codes = end.codes;
+    let words = [
+        status_number(status),
+        end.last,
+        answers::codes_number(codes),
+        end.retired,
+        end.cycles,
+    ];
+    write_words(result, &words);
+}
+
+pub fn write_registers(block: &mut [u8], end: Pipeline)
+    requires { ⌜ length (now block) ≡ 120 ⌝ }
+    ensures { λ _. ⌜ now (block .exit) ≡ withWords (end .registers) (now (block .entry)) 0 ⌝ }
+{
+    let registers = end.registers;
+    write_words(block, &registers);
+}
