@@ -9,7 +9,7 @@ use Rattle.account.specs.Names.{Status, aok, hlt, adr, ins, Codes, Kinds
 use Rattle.machine.specs.Types.{statusNumber, isBad}
 use Rattle.machine.specs.Memory.{Memory, Registers}
 use Rattle.machine.specs.Plain.{Plain, isStopped, steps}
-use Rattle.clocked.specs.Prediction.{Core, coreOf, asIn01}
+use Rattle.clocked.specs.Prediction.{Core, core01, asIn01}
 use Rattle.clocked.specs.Charges.{due}
 use Rattle.clocked.specs.Pipeline.{Piped, clocks}
 use Rattle.clocked.specs.Premise.{Untouched}
@@ -38,10 +38,10 @@ pub figures : ℕ → Memory → (k c : ℕ) → Figures
 unfolding from computing plainFrom pipedFrom untouched touches clear all
 figures w m k c =
     let s = plainFrom (from m) in
-    let p = clocks (coreOf asIn01) (pipedFrom (from m)) c .pipeline in
+    let p = clocks core01 (pipedFrom (from m)) c .pipeline in
     record {
       premise = untouched w s k;
-      dueIn = due (coreOf asIn01) s k;
+      dueIn = due core01 s k;
       plainStatus = steps s k .machine .status;
       plainLast = steps s k .machine .last;
       status = p .status;
@@ -116,7 +116,7 @@ pub as-stated : (Demand3 → Demand3Of 3 suc Agrees) × (Demand3Of 3 suc Agrees 
 as-stated = (λ d. d, λ d. d)
 
 -- the pipeline after 8 clocks has retired 4 and runs, where the plain engine has stopped
-goes-on : (n : ℕ) × Agrees (coreOf asIn01) (plainFrom (from patching)) (clocks (coreOf asIn01) (pipedFrom (from patching)) 8) 8 n → ⊥
+goes-on : (n : ℕ) × Agrees core01 (plainFrom (from patching)) (clocks core01 (pipedFrom (from patching)) 8) 8 n → ⊥
 unfolding figures patching
 goes-on x =
     let four : 4 ≡ x .0 = x .1 .retired in
@@ -127,20 +127,20 @@ goes-on x =
 -- with two it is false
 pub two-are-too-few : Demand3Of 2 suc Agrees → ⊥
 unfolding figures patching
-two-are-too-few d = goes-on (d (coreOf asIn01) (from patching) refl 3 (untouched-sound 2 (plainFrom (from patching)) 4 refl) 8 (omega arith))
+two-are-too-few d = goes-on (d core01 (from patching) refl 3 (untouched-sound 2 (plainFrom (from patching)) 4 refl) 8 (omega arith))
 
 -- THE EDITS OF THE STATEMENT (must-fail/), each false and not only unproved
 -- one_instruction_too_far: the store meets the premise as far as instruction 3, and instruction 4 is the one written into
 pub one-too-far : Demand3Of 3 (λ k. suc (suc k)) Agrees → ⊥
 unfolding figures patching
-one-too-far d = goes-on (d (coreOf asIn01) (from patching) refl 2 (untouched-sound 3 (plainFrom (from patching)) 3 refl) 8 (omega arith))
+one-too-far d = goes-on (d core01 (from patching) refl 2 (untouched-sound 3 (plainFrom (from patching)) 3 refl) 8 (omega arith))
 
 -- registers_ahead, by the fields that it has: at the start, before irmovq $64, %rsp
 pub registers-ahead : Demand3Of 3 suc (λ g s p c n. (p .pipeline .retired ≡ n) × (p .pipeline .registers ≡ steps s (suc n) .machine .registers)) → ⊥
 unfolding figures program
 registers-ahead d =
     let s = plainFrom (from (program 0)) in
-    let x = d (coreOf asIn01) (from (program 0)) refl 6 (untouched-sound 3 s 7 refl) 0 (omega arith) in
+    let x = d core01 (from (program 0)) refl 6 (untouched-sound 3 s 7 refl) 0 (omega arith) in
     let none : 0 ≡ x .0 = x .1 .0 in
     let clash : _≡_ {A = ℕ} 0 64 = ap (λ (r : Registers). getD r 4 0) (x .1 .1 ∙ ap (λ (n : ℕ). steps s (suc n) .machine .registers) (sym none)) in
     omega arith
@@ -150,9 +150,9 @@ pub a-cycle-early : Demand3Of 3 suc (λ g s p c n. (p .pipeline .retired ≡ n) 
 unfolding figures program
 a-cycle-early d =
     let s = plainFrom (from (program 0)) in
-    let x = d (coreOf asIn01) (from (program 0)) refl 6 (untouched-sound 3 s 7 refl) 4 (omega arith) in
+    let x = d core01 (from (program 0)) refl 6 (untouched-sound 3 s 7 refl) 4 (omega arith) in
     let none : 0 ≡ x .0 = x .1 .0 in
-    let late : suc 4 < due (coreOf asIn01) s (suc 0) = rw (sym none) at (x .1 .1) refl in
+    let late : suc 4 < due core01 s (suc 0) = rw (sym none) at (x .1 .1) refl in
     omega arith
 
 -- MEMORY AND CODES IN MID-RUN
@@ -161,7 +161,7 @@ pub memory-runs-ahead : Demand3Of 3 suc (λ g s p c n. Agrees g s p c n × (p .m
 unfolding figures program
 memory-runs-ahead d =
     let s = plainFrom (from (program 0)) in
-    let x = d (coreOf asIn01) (from (program 0)) refl 6 (untouched-sound 3 s 7 refl) 5 (omega arith) in
+    let x = d core01 (from (program 0)) refl 6 (untouched-sound 3 s 7 refl) 5 (omega arith) in
     let one : 1 ≡ x .0 = x .1 .0 .retired in
     let clash : _≡_ {A = ℕ} 19 0 = ap (λ (m : Memory). getD m 56 0) (x .1 .1 ∙ ap (λ (n : ℕ). steps s n .memory) (sym one)) in
     omega arith
@@ -171,6 +171,6 @@ pub codes-run-ahead : Demand3Of 3 suc (λ g s p c n. Agrees g s p c n × (p .pip
 unfolding figures program
 codes-run-ahead d =
     let s = plainFrom (from (program 0)) in
-    let x = d (coreOf asIn01) (from (program 0)) refl 6 (untouched-sound 3 s 7 refl) 7 (omega arith) in
+    let x = d core01 (from (program 0)) refl 6 (untouched-sound 3 s 7 refl) 7 (omega arith) in
     let three : 3 ≡ x .0 = x .1 .0 .retired in
     true≢false (sym (ap (λ (c : Codes). c .zf) (x .1 .1 ∙ ap (λ (n : ℕ). steps s n .machine .codes) (sym three))))

@@ -79,3 +79,5 @@ pub const MISPREDICT: u64 = 69;
 pub const RETURNED: u64 = 70;
 
 pub const KEPT: u64 = 71;
+
+pub const RULE: u64 = 81;

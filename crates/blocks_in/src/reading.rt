@@ -27,6 +27,7 @@ use crate::layout::RA;
 use crate::layout::RB;
 use crate::layout::RETIRED;
 use crate::layout::RETURNED;
+use crate::layout::RULE;
 use crate::layout::SF;
 use crate::layout::STATE;
 use crate::layout::STATE_STATUS;
@@ -41,6 +42,7 @@ use clocked::Kept;
 use clocked::Kinds;
 use clocked::Pipeline;
 use clocked::Retired;
+use clocked::Settings;
 use clocked::StageD;
 use clocked::StageE;
 use clocked::StageM;
@@ -200,8 +202,15 @@ pub fn machine_in(block: &[u64]) -> Machine {
     }
 }
 
+pub fn settings_in(block: &[u64]) -> Settings {
+    Settings {
+        rule: byte_at(block, RULE, 0),
+    }
+}
+
 pub fn pipeline_in(block: &[u64]) -> Pipeline {
     Pipeline {
+        settings: settings_in(block),
         predicted: word_at(block, PREDICTED, 0),
         d: d_in(block),
         e: e_in(block),

@@ -28,6 +28,7 @@ use blocks_in::layout::RA;
 use blocks_in::layout::RB;
 use blocks_in::layout::RETIRED;
 use blocks_in::layout::RETURNED;
+use blocks_in::layout::RULE;
 use blocks_in::layout::SF;
 use blocks_in::layout::STATE;
 use blocks_in::layout::STATE_STATUS;
@@ -220,6 +221,7 @@ fn put_state(
 }
 
 pub fn put_pipeline(block: &mut [u64], p: Pipeline) {
+    let settings = p.settings;
     let registers = p.registers;
     let codes = p.codes;
     let status = p.status;
@@ -227,6 +229,7 @@ pub fn put_pipeline(block: &mut [u64], p: Pipeline) {
     put_stages(block, p);
     put_state(block, STATE, registers, codes, status, p.last);
     put_counts(block, p);
+    put(block, RULE, 0, settings.rule as u64);
 }
 
 pub fn put_machine(block: &mut [u64], m: Machine) {

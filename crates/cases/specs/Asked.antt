@@ -7,7 +7,7 @@ use lib.ListN.{getD, replicate}
 use Rattle.machine.specs.Types.{statusNumber, codesNumber}
 use Rattle.machine.specs.Words.{number}
 use Rattle.machine.specs.Memory.{Memory}
-use Rattle.clocked.specs.Prediction.{asIn01}
+use Rattle.clocked.specs.Prediction.{core01, asIn01}
 use Rattle.clocked.specs.Charges.{charge}
 use Rattle.machine.specs.Plain.{plainStart, plainOf}
 use Rattle.clocked.specs.Pipeline.{pipeStart}
@@ -57,13 +57,13 @@ abbrev byPlain : Case → PlainAnswer
 byPlain c = plainRun (plainStart (given (c .registers)) fresh 0) (memoryOf c) budget log
 
 abbrev byPipeline : Case → PipeAnswer
-byPipeline c = pipeRun asIn01 (pipeStart (given (c .registers)) fresh 0) (memoryOf c) budget log log
+byPipeline c = pipeRun (pipeStart asIn01 (given (c .registers)) fresh 0) (memoryOf c) budget log log
 
 -- what a look finds in either engine
 abbrev inPlain : Case → PlainAnswer → What → ℕ → ℕ
 inPlain c s register q = getD (s .machine .registers) q 0
 inPlain c s word a = number 8 (s .memory) a
-inPlain c s charged k = charge asIn01 (plainOf (plainStart (given (c .registers)) fresh 0) (memoryOf c)) k
+inPlain c s charged k = charge core01 (plainOf (plainStart (given (c .registers)) fresh 0) (memoryOf c)) k
 
 -- a charge is seen in the cycles in which k and its predecessor retired
 abbrev inPipeline : PipeAnswer → What → ℕ → ℕ

@@ -4,7 +4,7 @@ use Prim.Native.Nat.{ℕ}
 use mathlib.Core.Path.{_≡_}
 use mathlib.Core.List.{List}
 use Rattle.machine.specs.Memory.{Memory, Registers}
-use Rattle.clocked.specs.Prediction.{asIn01}
+use Rattle.clocked.specs.declared.Settings.{Settings}
 use Rattle.machine.specs.Plain.{plainStart}
 use Rattle.clocked.specs.Pipeline.{pipeStart}
 use Rattle.machine.specs.Runs.{fetchAnswer, PlainAnswer, plainStep, plainRun}
@@ -54,19 +54,19 @@ plain-run = promising (Machine × Memory × ℕ × List ℕ) PlainAnswer (λ x. 
 
 -- pipe::start: "At a fresh start F holds the start address and the rest are bubbles."
 abbrev pub pipe-start : Operation
-pipe-start = promising (Registers × Codes × ℕ) Pipeline (λ x. pipeStart (x .0) (x .1) (x .2))
+pipe-start = promising (Settings × Registers × Codes × ℕ) Pipeline (λ x. pipeStart (x .0) (x .1) (x .2) (x .3))
 
 -- pipe::clock: one clock
 abbrev pub pipe-clock : Operation
-pipe-clock = promising (Pipeline × Memory) PipeAnswer (λ x. pipeClock asIn01 (x .0) (x .1))
+pipe-clock = promising (Pipeline × Memory) PipeAnswer (λ x. pipeClock (x .0) (x .1))
 
 -- pipe::run: the record, memory, budget and the logs of addresses and of cycles
 abbrev pub pipe-run : Operation
-pipe-run = promising (Pipeline × Memory × ℕ × List ℕ × List ℕ) PipeAnswer (λ x. pipeRun asIn01 (x .0) (x .1) (x .2) (x .3) (x .4))
+pipe-run = promising (Pipeline × Memory × ℕ × List ℕ × List ℕ) PipeAnswer (λ x. pipeRun (x .0) (x .1) (x .2) (x .3) (x .4))
 
 -- pipe::run_unlogged: a run without logs
 abbrev pub pipe-run-unlogged : Operation
-pipe-run-unlogged = promising (Pipeline × Memory × ℕ) PipeAnswer (λ x. pipeRunUnlogged asIn01 (x .0) (x .1) (x .2))
+pipe-run-unlogged = promising (Pipeline × Memory × ℕ) PipeAnswer (λ x. pipeRunUnlogged (x .0) (x .1) (x .2))
 
 -- edge::y86_replay: memory, registers and result as lent, start address, codes and budget
 abbrev pub host-edge : Operation

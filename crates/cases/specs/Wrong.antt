@@ -12,7 +12,7 @@ use Rattle.machine.specs.Types.{statusNumber, codesNumber, isBad}
 use Rattle.machine.specs.Words.{number}
 use Rattle.machine.specs.Memory.{Memory, Registers}
 use Rattle.machine.specs.Plain.{Plain, plainOf, plainStart, isStopped, step}
-use Rattle.clocked.specs.Prediction.{asIn01}
+use Rattle.clocked.specs.Prediction.{core01, asIn01}
 use Rattle.clocked.specs.Charges.{due}
 use Rattle.clocked.specs.Pipeline.{Piped, pipeStart}
 use Rattle.machine.specs.Runs.{PlainAnswer, plainAnswer, plainLimit, plainRun, laid}
@@ -72,7 +72,7 @@ abbrev plainAt : Start → Machine
 plainAt t = plainStart (t .registers) (t .codes) (t .address)
 
 abbrev pipeAt : Start → Pipeline
-pipeAt t = pipeStart (t .registers) (t .codes) (t .address)
+pipeAt t = pipeStart (t .settings) (t .registers) (t .codes) (t .address)
 
 abbrev log : List ℕ
 log = replicate 100 0
@@ -93,7 +93,7 @@ PipeFoul f t budget =
 
 -- THE INPUTS: an image, from a fresh start at 0 with ZF=1, and rsp as given, other registers 0
 abbrev from : Memory → ℕ → Start
-from m rsp = record { registers = set (replicate 15 0) 4 rsp; codes = record { zf = true; sf = false; of = false }; address = 0; memory = m }
+from m rsp = record { settings = asIn01; registers = set (replicate 15 0) 4 rsp; codes = record { zf = true; sf = false; of = false }; address = 0; memory = m }
 
 -- P1: halt
 abbrev pub halt : Start
@@ -187,6 +187,7 @@ counting k s n = record { registers = k .registers; codes = k .codes; address = 
 abbrev changed : Pipeline → Registers → Codes → Status → ℕ → Pipeline
 changed k r c s y =
     record {
+      settings = k .settings;
       predicted = k .predicted;
       d = k .d;
       e = k .e;
@@ -280,7 +281,7 @@ pipe-whole f = pipe-stores-at-once (pipeSetsAtOnce (restAtOnce f))
 -- ONE THAT MAKES UP CYCLES
 -- the right replay, with whatever logs
 abbrev right : PipeReplay
-right = pipeBy asIn01 []
+right = pipeBy []
 
 -- by a rule of its own the k-th instruction retires in cycle rule k, and that many are counted
 abbrev made : (ℕ → ℕ) → ℕ → List ℕ
@@ -328,15 +329,15 @@ after f t c =
 
 -- it does not agree with the plain history, however many instructions are said to have retired
 abbrev pub Disagrees : PipeReplay → Start → ℕ → Type 0
-Disagrees f t c = (n : ℕ) → Agrees asIn01 (plainFrom t) (after f t c) c n → ⊥
+Disagrees f t c = (n : ℕ) → Agrees core01 (plainFrom t) (after f t c) c n → ⊥
 
 -- the cycles that must have been counted
-agreed : (s : Plain) (p : Piped) (c n : ℕ) → Agrees asIn01 s p c n
-    → p .pipeline .cycles ≡ cond (isBad (p .pipeline .status)) (due asIn01 s (p .pipeline .retired)) c
+agreed : (s : Plain) (p : Piped) (c n : ℕ) → Agrees core01 s p c n
+    → p .pipeline .cycles ≡ cond (isBad (p .pipeline .status)) (due core01 s (p .pipeline .retired)) c
 agreed s p c n a = by (isBad (p .pipeline .status)) refl
   where
-    by : (b : Bool) → isBad (p .pipeline .status) ≡ b → p .pipeline .cycles ≡ cond b (due asIn01 s (p .pipeline .retired)) c
-    by true h = a .stopped h .2 ∙ ap (due asIn01 s) (sym (a .retired))
+    by : (b : Bool) → isBad (p .pipeline .status) ≡ b → p .pipeline .cycles ≡ cond b (due core01 s (p .pipeline .retired)) c
+    by true h = a .stopped h .2 ∙ ap (due core01 s) (sym (a .retired))
     by false h = a .running h
 
 abbrev itself : ℕ → ℕ
@@ -368,7 +369,7 @@ unfolding PipeFoul plainFrom
 pipe-makes-up-disagrees i a = differs itself 6 8 refl (agreed _ _ _ _ a)
 
 -- but not memory or codes in mid-run, which only the promises of the entries fix
-pub stores-at-once-agrees : Agrees asIn01 (plainFrom push) (after (pipeStoresAtOnce right) push 3) 3 0
+pub stores-at-once-agrees : Agrees core01 (plainFrom push) (after (pipeStoresAtOnce right) push 3) 3 0
 unfolding PipeFoul plainFrom keptOf
 stores-at-once-agrees =
     record {

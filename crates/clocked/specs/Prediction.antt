@@ -22,6 +22,9 @@ coreOf s = record { guesses = rule (s .rule) }
 abbrev pub asIn01 : Settings
 asIn01 = record { rule = 0 }
 
+abbrev pub core01 : Core
+core01 = coreOf asIn01
+
 -- is this jump guessed to go to C; the unconditional one is, whatever the core
 unfoldable pub guess : Core → Instruction → Bool
 guess g i = eqb (i .function) 0 || g .guesses i

@@ -92,10 +92,10 @@ judged-numbered (refused k) m table n filed h = tt
 judged-numbered (judgedAs d) m table n filed h = judged-number m table n filed d (sym h)
 
 -- THE REPLAY
-pub replayed : (image image′ : Memory) (n : ℕ) (fresh p : Pipeline) → fresh ≡ pipeStart (replicate 15 0) (record { zf = true; sf = false; of = false }) 0
-    → pipeAnswer n p image′ [] [] ≡ pipeRunUnlogged asIn01 fresh image 4000 → image′ ≡ imageRun image .memory
+pub replayed : (image image′ : Memory) (n : ℕ) (fresh p : Pipeline) → fresh ≡ pipeStart asIn01 (replicate 15 0) (record { zf = true; sf = false; of = false }) 0
+    → pipeAnswer n p image′ [] [] ≡ pipeRunUnlogged fresh image 4000 → image′ ≡ imageRun image .memory
 unfolding imageRun
-replayed image image′ n fresh p e f = ap (λ (o : PipeAnswer). o .memory) (f ∙ ap (λ (k : Pipeline). pipeRunUnlogged asIn01 k image 4000) e)
+replayed image image′ n fresh p e f = ap (λ (o : PipeAnswer). o .memory) (f ∙ ap (λ (k : Pipeline). pipeRunUnlogged k image 4000) e)
 
 -- THE REQUEST
 module _ (q : Request) (image out : List ℕ) (i : Bool) (h : i ≡ imageRefused (length image)) {b : List ℕ} {r : ℕ} where

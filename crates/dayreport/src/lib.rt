@@ -48,7 +48,7 @@ fn replay(image: &mut [u8])
         sf: false,
         of: false,
     };
-    let fresh = pipe::start([0u64; 15], codes, 0);
+    let fresh = pipe::start(pipe::as_in_01(), [0u64; 15], codes, 0);
     pipe::run_unlogged(fresh, image, 4000);
 }
 

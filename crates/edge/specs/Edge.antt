@@ -27,7 +27,7 @@ edgeDone o registers result = edge 0 (o .memory) (withWords (o .pipeline .regist
 
 -- "It makes one pipelined run without logs from a fresh start"
 unfoldable pub edgeRun : Memory → List ℕ → (start codes budget : ℕ) → PipeAnswer
-edgeRun memory registers start codes budget = pipeRunUnlogged asIn01 (pipeStart (wordsIn 15 registers 0) (codesFrom codes) start) memory budget
+edgeRun memory registers start codes budget = pipeRunUnlogged (pipeStart asIn01 (wordsIn 15 registers 0) (codesFrom codes) start) memory budget
 
 unfoldable pub replayed : Memory → List ℕ → List ℕ → (start codes budget : ℕ) → Edge
 replayed memory registers result start codes budget =

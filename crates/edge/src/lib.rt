@@ -22,6 +22,7 @@ pub extern "C" fn y86_replay(
         return number;
     }
     let fresh = pipe::start(
+        pipe::as_in_01(),
         block::read_registers(registers),
         block::codes_from(codes),
         start,

@@ -17,6 +17,7 @@ use machine::REGISTERS;
 use machine::Status;
 ghost use mathlib.Core.Path.{_≡_};
 ghost use mathlib.Core.List.{[]};
+ghost use Rattle.clocked.specs.Prediction.{asIn01};
 ghost use Rattle.clocked.specs.Pipeline.{pipeStart};
 ghost use Rattle.clocked.specs.PipeRuns.{pipeAnswer, pipeRun, pipeRunUnlogged, pipeClock};
 ghost use Rattle.pipe.specs.Parts.{answerBy};
@@ -25,6 +26,13 @@ ghost use Rattle.pipe.specs.Parts.{answerBy};
 pub struct Answer {
     pub number: u64,
     pub pipeline: Pipeline,
+}
+
+// Document 01's own settings.
+pub fn as_in_01() -> Settings
+    ensures { λ r. ⌜ r ≡ asIn01 ⌝ }
+{
+    Settings { rule: 0 }
 }
 
 pub fn start(

@@ -1,6 +1,7 @@
 // The code meets the promises that the crate cases speaks of: each open operation, called, fits its own. A contract of theirs that said less
 // would fail here.
 use clocked::Pipeline;
+use clocked::Settings;
 use machine::Codes;
 use machine::FetchAnswer;
 use machine::Machine;
@@ -44,10 +45,15 @@ fn plain_run(machine: Machine, memory: &mut [u8], budget: u64, log: &mut [u64]) 
     plain::run(machine, memory, budget, log)
 }
 
-fn pipe_start(registers: [u64; REGISTERS], codes: Codes, address: u64) -> Pipeline
-    ensures { λ r. ⌜ Fits pipe-start (registers, codes, address) r ⌝ }
+fn pipe_start(
+    settings: Settings,
+    registers: [u64; REGISTERS],
+    codes: Codes,
+    address: u64,
+) -> Pipeline
+    ensures { λ r. ⌜ Fits pipe-start (settings, registers, codes, address) r ⌝ }
 {
-    pipe::start(registers, codes, address)
+    pipe::start(settings, registers, codes, address)
 }
 
 fn pipe_clock(pipeline: Pipeline, memory: &mut [u8]) -> pipe::Answer
@@ -102,7 +108,7 @@ fn both(
     cycles: &mut [u64],
 ) -> together::Both
     ensures { λ r. ⌜ Fits run-both (
-      startOf registers codes address (now (memory .entry)),
+      startOf settings registers codes address (now (memory .entry)),
       now (copy .entry),
       budget,
       clocked,
@@ -114,6 +120,7 @@ fn both(
         (pipeAnswer (r .pipe .number) (r .pipe .pipeline) (now (copy .exit)) (now (addresses .exit)) (now (cycles .exit)))) ⌝ }
 {
     together::run_both(
+        settings,
         registers,
         codes,
         address,

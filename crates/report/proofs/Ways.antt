@@ -38,8 +38,8 @@ module _ {a b c : List ℕ} {i r : ℕ} (n : ℕ) (p : Pipeline) (room : length 
       put-front q (omega (arith, q .place))
 
 pub replays : (image image′ out out′ : List ℕ) (n r : ℕ) (fresh p : Pipeline)
-    → fresh ≡ pipeStart (replicate 15 0) (record { zf = true; sf = false; of = false }) 0
-    → pipeAnswer n p image′ [] [] ≡ pipeRunUnlogged asIn01 fresh image 4000 → _≡_ {A = ℕ × List ℕ} (r, out′) (written (report n p) out)
+    → fresh ≡ pipeStart asIn01 (replicate 15 0) (record { zf = true; sf = false; of = false }) 0
+    → pipeAnswer n p image′ [] [] ≡ pipeRunUnlogged fresh image 4000 → _≡_ {A = ℕ × List ℕ} (r, out′) (written (report n p) out)
     → _≡_ {A = ℕ × List ℕ × List ℕ} (r, out′, image′) (replayed image out)
 unfolding imageRun reported replayed
 replays image image′ out out′ n r fresh p e f g =
@@ -47,5 +47,5 @@ replays image image′ out out′ n r fresh p e f g =
     (λ (o : PipeAnswer).
     let t = report (o .number) (o .pipeline) in
     _≡_ {A = ℕ × List ℕ × List ℕ} (r, out′, image′) (length t, t ++ drop (length t) out, o .memory))
-    (f ∙ ap (λ (k : Pipeline). pipeRunUnlogged asIn01 k image 4000) e)
+    (f ∙ ap (λ (k : Pipeline). pipeRunUnlogged k image 4000) e)
     (ap (λ (x : ℕ × List ℕ). (x .0, x .1, image′)) g)

@@ -23,7 +23,7 @@ report number p = line (bytes "y86run") (bytes "1") ++ cond (eqb number 0) (endL
 
 -- "registers 0, codes ZF=1, start 0, budget 4,000 cycles"
 unfoldable pub imageRun : Memory → PipeAnswer
-imageRun image = pipeRunUnlogged asIn01 (pipeStart (replicate 15 0) (record { zf = true; sf = false; of = false }) 0) image 4000
+imageRun image = pipeRunUnlogged (pipeStart asIn01 (replicate 15 0) (record { zf = true; sf = false; of = false }) 0) image 4000
 
 -- the bytes that the program writes for the image that it read
 unfoldable pub reported : Memory → List ℕ

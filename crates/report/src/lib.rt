@@ -49,7 +49,7 @@ pub fn report_image(image: &mut [u8], out: &mut [u8; 652]) -> usize
         sf: false,
         of: false,
     };
-    let fresh = pipe::start([0u64; 15], codes, 0);
+    let fresh = pipe::start(pipe::as_in_01(), [0u64; 15], codes, 0);
     let answer = pipe::run_unlogged(fresh, image, 4000);
     let end = answer.pipeline;
     write_report(answer.number, end, out)

@@ -8,7 +8,6 @@ use Rattle.clocked.specs.declared.Pipeline.{Pipeline}
 use Rattle.machine.specs.Memory.{Memory}
 use Rattle.machine.specs.Plain.{plainStart}
 use Rattle.clocked.specs.Pipeline.{pipeStart}
-use Rattle.clocked.specs.Prediction.{asIn01}
 use Rattle.machine.specs.Runs.{PlainAnswer, plainRun}
 use Rattle.clocked.specs.PipeRuns.{PipeAnswer, pipeRun}
 use Rattle.account.specs.Statement.{Start}
@@ -16,7 +15,7 @@ use Rattle.together.specs.Both.{BothAnswer, bothAnswer, bothRuns, AsDema
 
 pub both-ran : (t : Start) (copy : Memory) (budget clocked : ℕ) (log addresses cycles : List ℕ) → length (t .registers) ≡ 15
     → (m : Machine) → m ≡ plainStart (t .registers) (t .codes) (t .address) → (x : PlainAnswer) → x ≡ plainRun m (t .memory) budget log
-    → (p : Pipeline) → p ≡ pipeStart (t .registers) (t .codes) (t .address) → (y : PipeAnswer) → y ≡ pipeRun asIn01 p copy clocked addresses cycles
+    → (p : Pipeline) → p ≡ pipeStart (t .settings) (t .registers) (t .codes) (t .address) → (y : PipeAnswer) → y ≡ pipeRun p copy clocked addresses cycles
     → RunsBoth t copy budget clocked log addresses cycles (bothAnswer x y)
 unfolding bothRuns
 both-ran t copy budget clocked log addresses cycles l m em x ex p ep y ey =

@@ -10,7 +10,7 @@ use Rattle.machine.specs.Types.{isBad, statusNumber, codesNumber}
 use Rattle.machine.specs.Memory.{Memory}
 use Rattle.machine.specs.Plain.{Plain, isStopped, steps}
 use Rattle.clocked.specs.Charges.{due}
-use Rattle.clocked.specs.Prediction.{asIn01}
+use Rattle.clocked.specs.Prediction.{core01, asIn01}
 use Rattle.clocked.specs.Pipeline.{Piped, clocks}
 use Rattle.clocked.specs.Premise.{Untouched}
 use Rattle.clocked.specs.PipeRuns.{PipeAnswer, pipeDone}
@@ -26,7 +26,7 @@ use Rattle.edge.specs.Checked.{runs-inside}
 
 -- "until the stop, and none after": the cycles counted in so many clocks, when n instructions have retired
 unfoldable pub elapsed : Plain → (clocked n : ℕ) → ℕ
-elapsed s clocked n = cond (isStopped (steps s n)) (due asIn01 s n) clocked
+elapsed s clocked n = cond (isStopped (steps s n)) (due core01 s n) clocked
 
 -- what the lent bytes hold after n instructions of the plain history: its registers and the five result words; with what memory and codes
 -- is said beside it, since in mid-run they are ahead
@@ -39,10 +39,10 @@ shown s clocked n m c registers result =
 module _ (memory registers result : List ℕ) (start codes budget : ℕ) where
   -- the start that the lent bytes and numbers say
   abbrev pub lent : Start
-  lent = record { registers = wordsIn 15 registers 0; codes = codesFrom codes; address = start; memory = memory }
+  lent = record { settings = asIn01; registers = wordsIn 15 registers 0; codes = codesFrom codes; address = start; memory = memory }
 
   abbrev piped : Piped
-  piped = clocks asIn01 (pipedFrom lent) budget
+  piped = clocks core01 (pipedFrom lent) budget
 
   abbrev pub answered : Edge
   answered = replayed memory registers result start codes budget
@@ -53,10 +53,10 @@ module _ (memory registers result : List ℕ) (start codes budget : ℕ) where
     unfolding replayed edgeRun pipedFrom
     ran =
         let inside = runs-inside memory registers result start codes budget h in
-        rw h (ap (λ (o : PipeAnswer). edgeDone o registers result) (unlogged-ran asIn01 _ memory budget inside .0))
+        rw h (ap (λ (o : PipeAnswer). edgeDone o registers result) (unlogged-ran _ memory budget inside .0))
 
     -- so it shows the plain history where demand 3 holds of the pipeline
-    shows : (n : ℕ) → Agrees asIn01 (plainFrom lent) piped budget n
+    shows : (n : ℕ) → Agrees core01 (plainFrom lent) piped budget n
         → answered ≡ shown (plainFrom lent) budget n (piped .memory) (piped .pipeline .codes) registers result
     unfolding edgeDone pipeDone resultWords shown elapsed isStopped
     shows n a =
@@ -64,39 +64,39 @@ module _ (memory registers result : List ℕ) (start codes budget : ℕ) where
         let t : piped .pipeline .cycles ≡ elapsed (plainFrom lent) budget n = times (isBad (s .machine .status)) refl in
         ran ∙ cc (a .registers, a .status, a .last, a .retired)
       where
-        times : (b : Bool) → isBad (steps (plainFrom lent) n .machine .status) ≡ b → piped .pipeline .cycles ≡ cond b (due asIn01 (plainFrom lent) n) budget
+        times : (b : Bool) → isBad (steps (plainFrom lent) n .machine .status) ≡ b → piped .pipeline .cycles ≡ cond b (due core01 (plainFrom lent) n) budget
         times true e = a .stopped (ap isBad (a .status) ∙ e) .2
         times false e = a .running (ap isBad (a .status) ∙ e)
 
     -- with the premise up to instruction k + 1 and no clock past its due cycle: registers, status, last address, retired and cycles
-    pub edge-shows : (k : ℕ) → Untouched (plainFrom lent) (suc k) → budget ≤ due asIn01 (plainFrom lent) (suc k)
-        → (n : ℕ) × DueBy asIn01 (plainFrom lent) budget n
+    pub edge-shows : (k : ℕ) → Untouched (plainFrom lent) (suc k) → budget ≤ due core01 (plainFrom lent) (suc k)
+        → (n : ℕ) × DueBy core01 (plainFrom lent) budget n
         × (answered ≡ shown (plainFrom lent) budget n (piped .memory) (piped .pipeline .codes) registers result)
     unfolding wordsIn
     edge-shows k u q =
-        let x = demand3 asIn01 lent refl k u budget q in
+        let x = demand3 core01 lent refl k u budget q in
         (x .0, x .1 .exactly, shows (x .0) (x .1))
 
     -- with two cycles to spare memory and codes too: ahead by the instructions that are due one cycle later, and two
-    pub edge-ahead : (k : ℕ) → Untouched (plainFrom lent) (suc k) → budget + 2 < due asIn01 (plainFrom lent) (suc k)
-        → (n a b : ℕ) × DueBy asIn01 (plainFrom lent) budget n × DueBy asIn01 (plainFrom lent) (budget + 1) a × DueBy asIn01 (plainFrom lent) (budget + 2) b
+    pub edge-ahead : (k : ℕ) → Untouched (plainFrom lent) (suc k) → budget + 2 < due core01 (plainFrom lent) (suc k)
+        → (n a b : ℕ) × DueBy core01 (plainFrom lent) budget n × DueBy core01 (plainFrom lent) (budget + 1) a × DueBy core01 (plainFrom lent) (budget + 2) b
         × (answered ≡ shown (plainFrom lent) budget n (steps (plainFrom lent) a .memory) (steps (plainFrom lent) b .machine .codes) registers result)
     unfolding wordsIn
     edge-ahead k u q =
         let x = edge-shows k u (omega arith) in
-        let y = in-mid-run asIn01 lent refl k u budget q in
+        let y = in-mid-run core01 lent refl k u budget q in
         (x .0, y .0, y .1, x .1, y .2 .stores, y .2 .sets, x .2 ∙ rw (y .2 .memory, y .2 .codes))
 
     -- THE STOP: with the premise over the n instructions up to it, and a budget that reaches the cycle in which the last of them is due,
     -- whatever that budget is
     pub edge-stops : (n : ℕ) → ((i : ℕ) → i < n → isStopped (steps (plainFrom lent) i) ≡ false) → isStopped (steps (plainFrom lent) n) ≡ true
-        → Untouched (plainFrom lent) n → due asIn01 (plainFrom lent) n ≤ budget
+        → Untouched (plainFrom lent) n → due core01 (plainFrom lent) n ≤ budget
         → answered ≡ shown (plainFrom lent) budget n (steps (plainFrom lent) n .memory) (steps (plainFrom lent) n .machine .codes) registers result
     unfolding wordsIn isStopped
     edge-stops n f b u q =
         let s = plainFrom lent in
-        let x = always asIn01 lent refl (untouched-on s n b u) budget in
-        let e : x .0 ≡ n = due-only asIn01 s budget (x .0) n (x .1 .exactly) (due-stopped asIn01 s budget n f b q) in
-        let a : Agrees asIn01 s piped budget n = subst (λ (m : ℕ). Agrees asIn01 s piped budget m) e (x .1) in
+        let x = always core01 lent refl (untouched-on s n b u) budget in
+        let e : x .0 ≡ n = due-only core01 s budget (x .0) n (x .1 .exactly) (due-stopped core01 s budget n f b q) in
+        let a : Agrees core01 s piped budget n = subst (λ (m : ℕ). Agrees core01 s piped budget m) e (x .1) in
         let z = a .stopped (ap isBad (a .status) ∙ b) in
         shows n a ∙ rw (z .0, z .1)

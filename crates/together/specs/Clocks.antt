@@ -8,13 +8,13 @@ use lib.Dec.{eqb}
 use lib.ListN.{length}
 use Rattle.clocked.specs.declared.Pipeline.{Pipeline}
 use Rattle.machine.specs.Memory.{Memory}
-use Rattle.clocked.specs.Prediction.{asIn01}
+use Rattle.clocked.specs.Prediction.{coreOf}
 use Rattle.clocked.specs.Pipeline.{pipedOf, clocks}
 use Rattle.clocked.specs.PipeRuns.{PipeAnswer, pipeAnswer, pipeRefusal, pipeDone, pipeBy, pipeRunUnlogged, pipeClock}
 use Rattle.answers.specs.Logs.{laid-none}
 use Rattle.answers.specs.Joined.{ones, ones-join}
 use Rattle.pipe.specs.Joined.{unlogged}
-use Rattle.account.specs.Statement.{Start, pipedFrom}
+use Rattle.account.specs.Statement.{Start, chosen, pipedFrom}
 use Rattle.account.specs.Timing.{up-to}
 use Rattle.account.specs.Contents.{Bytes, shorter, each-clock}
 use Rattle.account.specs.TwoRuns.{plainAnswered, pipeUnlogged, unlogged-ran, Covered, EndsAgree, unlogged-too}
@@ -22,7 +22,7 @@ use Rattle.account.specs.TwoRuns.{plainAnswered, pipeUnlogged, unlogged-ran, Co
 -- the answer of the last of n clocks, each made from where the one before it ended
 unfoldable pub clockByClock : Pipeline → Memory → ℕ → PipeAnswer
 clockByClock k m zero = pipeAnswer 0 k m [] []
-clockByClock k m (suc n) = let last = clockByClock k m n in pipeClock asIn01 (last .pipeline) (last .memory)
+clockByClock k m (suc n) = let last = clockByClock k m n in pipeClock (last .pipeline) (last .memory)
 
 abbrev pub NoneRefused : Pipeline → Memory → ℕ → Type 0
 NoneRefused k m n = (i : ℕ) → i < n → clockByClock k m (suc i) .number ≡ 0
@@ -32,12 +32,12 @@ abbrev bare : PipeAnswer → PipeAnswer
 bare o = pipeAnswer (o .number) (o .pipeline) (o .memory) [] []
 
 module _ (k : Pipeline) (m : Memory) where
-  run-bare : (n : ℕ) → pipeRunUnlogged asIn01 k m n ≡ bare (pipeRunUnlogged asIn01 k m n)
+  run-bare : (n : ℕ) → pipeRunUnlogged k m n ≡ bare (pipeRunUnlogged k m n)
   unfolding pipeRunUnlogged pipeBy pipeDone
   run-bare n = go (eqb (pipeRefusal k (length m) n []) 0)
     where
       o : Bool → PipeAnswer
-      o b = cond b (pipeDone (clocks asIn01 (pipedOf k m) n) [] []) (pipeAnswer (pipeRefusal k (length m) n []) k m [] [])
+      o b = cond b (pipeDone (clocks (coreOf (k .settings)) (pipedOf k m) n) [] []) (pipeAnswer (pipeRefusal k (length m) n []) k m [] [])
 
       go : (b : Bool) → o b ≡ bare (o b)
       go true = simp laid-none
@@ -50,68 +50,68 @@ module _ (k : Pipeline) (m : Memory) where
   clocks-bare (suc n) = run-bare (clockByClock k m n .pipeline) (clockByClock k m n .memory) 1
 
   -- "A step or clock is a run of 1 without logs": n clocks, of which none is refused, are a run of n
-  pub clocks-are-a-run : (n : ℕ) → NoneRefused k m n → pipeRunUnlogged asIn01 k m n .number ≡ 0 → clockByClock k m n ≡ pipeRunUnlogged asIn01 k m n
+  pub clocks-are-a-run : (n : ℕ) → NoneRefused k m n → pipeRunUnlogged k m n .number ≡ 0 → clockByClock k m n ≡ pipeRunUnlogged k m n
   unfolding clockByClock pipeClock ones unlogged
   clocks-are-a-run n h r =
       clocks-bare n
       ∙ (ap (λ (i : ℕ). pipeAnswer i (clockByClock k m n .pipeline) (clockByClock k m n .memory) [] []) (number n h ∙ sym r)
-      ∙ (ap (λ (x : Pipeline × Memory). pipeAnswer (pipeRunUnlogged asIn01 k m n .number) (x .0) (x .1) [] []) ends ∙ sym (run-bare k m n)))
+      ∙ (ap (λ (x : Pipeline × Memory). pipeAnswer (pipeRunUnlogged k m n .number) (x .0) (x .1) [] []) ends ∙ sym (run-bare k m n)))
     where
       number : (n : ℕ) → NoneRefused k m n → clockByClock k m n .number ≡ 0
       number zero f = refl
       number (suc i) f = f i (omega arith)
 
       -- the same calls, as runs of 1
-      as-ones : (n : ℕ) → _≡_ {A = Pipeline × Memory} (clockByClock k m n .pipeline, clockByClock k m n .memory) (ones (unlogged asIn01) (k, m) n)
+      as-ones : (n : ℕ) → _≡_ {A = Pipeline × Memory} (clockByClock k m n .pipeline, clockByClock k m n .memory) (ones unlogged (k, m) n)
       as-ones zero = refl
-      as-ones (suc n) = ap (λ (x : Pipeline × Memory). unlogged asIn01 .run x 1 .1) (as-ones n)
+      as-ones (suc n) = ap (λ (x : Pipeline × Memory). unlogged .run x 1 .1) (as-ones n)
 
-      each : (i : ℕ) → i < n → unlogged asIn01 .run (ones (unlogged asIn01) (k, m) i) 1 .0 ≡ 0
-      each i q = subst (λ (x : Pipeline × Memory). unlogged asIn01 .run x 1 .0 ≡ 0) (as-ones i) (h i q)
+      each : (i : ℕ) → i < n → unlogged .run (ones unlogged (k, m) i) 1 .0 ≡ 0
+      each i q = subst (λ (x : Pipeline × Memory). unlogged .run x 1 .0 ≡ 0) (as-ones i) (h i q)
 
       ends : _≡_ {A = Pipeline × Memory} (clockByClock k m n .pipeline, clockByClock k m n .memory)
-          (pipeRunUnlogged asIn01 k m n .pipeline, pipeRunUnlogged asIn01 k m n .memory)
-      ends = as-ones n ∙ ones-join (unlogged asIn01) (k, m) n each r
+          (pipeRunUnlogged k m n .pipeline, pipeRunUnlogged k m n .memory)
+      ends = as-ones n ∙ ones-join unlogged (k, m) n each r
 
 -- FROM A FRESH START a run of n that is not refused can be made clock by clock: none of them is refused, and the last one's answer is the run's
-module _ (t : Start) (b : Bytes (t .memory)) (n : ℕ) (r : pipeUnlogged asIn01 t n .number ≡ 0) where
+module _ (t : Start) (b : Bytes (t .memory)) (n : ℕ) (r : pipeUnlogged t n .number ≡ 0) where
   refusal : pipeRefusal (pipedFrom t .pipeline) (length (t .memory)) n [] ≡ 0
-  refusal = unlogged-ran asIn01 (pipedFrom t .pipeline) (t .memory) n r .1
+  refusal = unlogged-ran (pipedFrom t .pipeline) (t .memory) n r .1
 
-  answers : (k : Pipeline) (m : Memory) (i : ℕ) → pipeRefusal k (length m) i [] ≡ 0 → pipeRunUnlogged asIn01 k m i .number ≡ 0
+  answers : (k : Pipeline) (m : Memory) (i : ℕ) → pipeRefusal k (length m) i [] ≡ 0 → pipeRunUnlogged k m i .number ≡ 0
   unfolding pipeRunUnlogged pipeBy pipeDone
   answers k m i e = rw e
 
   -- where i clocks end of which none is refused
   there : (i : ℕ) → i ≤ n → NoneRefused (pipedFrom t .pipeline) (t .memory) i
       → let o = clockByClock (pipedFrom t .pipeline) (t .memory) i in
-      let p = clocks asIn01 (pipedFrom t) i in _≡_ {A = Pipeline × Memory} (o .pipeline, o .memory) (p .pipeline, p .memory)
+      let p = clocks (chosen t) (pipedFrom t) i in _≡_ {A = Pipeline × Memory} (o .pipeline, o .memory) (p .pipeline, p .memory)
   unfolding clockByClock clocks pipedFrom pipeDone
   there zero h f = refl
   there (suc i) h f =
-      let s = answers (pipedFrom t .pipeline) (t .memory) (suc i) (shorter asIn01 t b n refusal i h) in
+      let s = answers (pipedFrom t .pipeline) (t .memory) (suc i) (shorter (chosen t) t b n refusal i h) in
       ap (λ (o : PipeAnswer). (o .pipeline, o .memory))
-      (clocks-are-a-run (pipedFrom t .pipeline) (t .memory) (suc i) f s ∙ unlogged-ran asIn01 (pipedFrom t .pipeline) (t .memory) (suc i) s .0)
+      (clocks-are-a-run (pipedFrom t .pipeline) (t .memory) (suc i) f s ∙ unlogged-ran (pipedFrom t .pipeline) (t .memory) (suc i) s .0)
 
   up : (i : ℕ) → i ≤ n → NoneRefused (pipedFrom t .pipeline) (t .memory) i
   unfolding clockByClock pipeClock
   up zero h = λ j q. absurd (omega arith)
   up (suc i) h =
       let f = up i (omega arith) in
-      let p = clocks asIn01 (pipedFrom t) i in
-      let next = answers (p .pipeline) (p .memory) 1 (each-clock asIn01 t b n refusal i h) in
+      let p = clocks (chosen t) (pipedFrom t) i in
+      let next = answers (p .pipeline) (p .memory) 1 (each-clock (chosen t) t b n refusal i h) in
       up-to {P = λ (j : ℕ). clockByClock (pipedFrom t .pipeline) (t .memory) (suc j) .number ≡ 0} i f
-      (subst (λ (x : Pipeline × Memory). pipeRunUnlogged asIn01 (x .0) (x .1) 1 .number ≡ 0) (sym (there i (omega arith) f)) next)
+      (subst (λ (x : Pipeline × Memory). pipeRunUnlogged (x .0) (x .1) 1 .number ≡ 0) (sym (there i (omega arith) f)) next)
 
   pub none-refused : NoneRefused (pipedFrom t .pipeline) (t .memory) n
   none-refused = up n (omega arith)
 
-  pub fresh-clocks : clockByClock (pipedFrom t .pipeline) (t .memory) n ≡ pipeUnlogged asIn01 t n
+  pub fresh-clocks : clockByClock (pipedFrom t .pipeline) (t .memory) n ≡ pipeUnlogged t n
   fresh-clocks = clocks-are-a-run (pipedFrom t .pipeline) (t .memory) n none-refused r
 
   -- DEMAND 3, clock by clock: as of a run without logs
   pub clocks-agree : (budget : ℕ) (log : List ℕ) → length (t .registers) ≡ 15 → plainAnswered t budget log .number ≡ 0
-      → Covered asIn01 t n (plainAnswered t budget log)
-      → EndsAgree asIn01 t budget n (plainAnswered t budget log) (clockByClock (pipedFrom t .pipeline) (t .memory) n)
+      → Covered t n (plainAnswered t budget log)
+      → EndsAgree t budget n (plainAnswered t budget log) (clockByClock (pipedFrom t .pipeline) (t .memory) n)
   clocks-agree budget log l x c =
-      subst (EndsAgree asIn01 t budget n (plainAnswered t budget log)) (sym fresh-clocks) (unlogged-too asIn01 t budget n log [] [] l x r c)
+      subst (EndsAgree t budget n (plainAnswered t budget log)) (sym fresh-clocks) (unlogged-too t budget n log [] [] l x r c)

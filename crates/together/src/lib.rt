@@ -1,4 +1,5 @@
 // Both engines from one start, for a caller who wants to compare them.
+use clocked::Settings;
 use machine::Codes;
 use machine::REGISTERS;
 ghost use Rattle.machine.specs.Runs.{plainAnswer};
@@ -13,6 +14,7 @@ pub struct Both {
 
 // Both engines started alike and run: the plain engine in memory, the pipeline in a copy of it. A refusal of one leaves the other alone.
 pub fn run_both(
+    settings: Settings,
     registers: [u64; REGISTERS],
     codes: Codes,
     address: u64,
@@ -24,14 +26,14 @@ pub fn run_both(
     addresses: &mut [u64],
     cycles: &mut [u64],
 ) -> Both
-    ensures { λ r. ⌜ RunsBoth (startOf registers codes address (now (memory .entry))) (now (copy .entry)) budget clocked
+    ensures { λ r. ⌜ RunsBoth (startOf settings registers codes address (now (memory .entry))) (now (copy .entry)) budget clocked
         (now (log .entry)) (now (addresses .entry)) (now (cycles .entry))
         (bothAnswer (plainAnswer (r .plain .number) (r .plain .machine) (now (memory .exit)) (now (log .exit)))
         (pipeAnswer (r .pipe .number) (r .pipe .pipeline) (now (copy .exit)) (now (addresses .exit)) (now (cycles .exit)))) ⌝ }
 {
     let machine = plain::start(registers, codes, address);
     let plain = plain::run(machine, memory, budget, log);
-    let pipeline = pipe::start(registers, codes, address);
+    let pipeline = pipe::start(settings, registers, codes, address);
     let pipe = pipe::run(pipeline, copy, clocked, addresses, cycles);
     Both { plain, pipe }
 }

@@ -9,6 +9,7 @@ use blocks_in::reading::codes_in;
 use blocks_in::reading::machine_in;
 use blocks_in::reading::pipeline_in;
 use blocks_in::reading::registers_in;
+use blocks_in::reading::settings_in;
 use blocks_out::writing::put_instruction;
 use blocks_out::writing::put_machine;
 use blocks_out::writing::put_pipeline;
@@ -50,10 +51,15 @@ pub extern "C" fn trial_plain_run(
     answer.number
 }
 
-// A fresh pipeline record, with the registers and codes that the block holds.
+// A fresh pipeline record, with the settings, registers and codes that the block holds.
 #[no_mangle]
 pub extern "C" fn trial_pipe_start(block: &mut [u64], address: u64) {
-    let fresh = pipe::start(registers_in(block, STATE), codes_in(block, STATE), address);
+    let fresh = pipe::start(
+        settings_in(block),
+        registers_in(block, STATE),
+        codes_in(block, STATE),
+        address,
+    );
     put_pipeline(block, fresh);
 }
 
