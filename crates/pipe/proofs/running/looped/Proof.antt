@@ -1,7 +1,7 @@
 -- The invariant: flow, counts, status, registers, memory and logs are those after `done` clocks of the definition (`Runs` `Here`, which also keeps the
 -- counts small and the carried targets right), `done` is within the budget, and memory keeps its length. The measure is what is left of the budget.
--- A turn goes on by `here-next`, or stops in its clock by `here-stopped`. A `let` names the record of facts behind a call, or at a place of the loop, by
--- its type, for which `search` finds the place.
+-- A turn goes on by `here-next`, or stops in its clock by `here-stopped`. A `let` names the record of facts at a place by its type, for which `search`
+-- finds the way; a way out of the loop names its facts in the order of the code.
 use mathlib.Core.Logic.{⊎-elim}
 use mathlib.Core.Path.{_≡_, refl, sym, _∙_}
 use Prim.Native.Nat.{_-_, _≤_}
@@ -15,14 +15,28 @@ use Rattle.pipe.proofs.running.looped.Statement.{statement}
 use Rattle.pipe.proofs.running.looped.Tie as tie
 
 abbrev Inv-loop : tie.InvT-loop
-Inv-loop memory₀ budget addresses₀ cycles₀ settings first registers₀ flow₀ tally₀ status₀ done₀ memory addresses cycles registers flow tally status done =
-    Here settings (pipedOf (whole settings flow₀ tally₀ status₀ registers₀) memory₀) first addresses₀ cycles₀ done flow tally status registers memory addresses
-    cycles
+Inv-loop memory₀ budget addresses₀ cycles₀ first registers₀ flow₀ tally₀ status₀ done₀ memory addresses cycles registers flow tally status done =
+    Here (pipedOf (whole flow₀ tally₀ status₀ registers₀) memory₀) first addresses₀ cycles₀ done flow tally status registers memory addresses cycles
     × (done ≤ budget) × (length memory ≡ length memory₀)
 
 abbrev μ-loop : tie.MeasureT-loop
-μ-loop memory₀ budget addresses₀ cycles₀ settings first registers₀ flow₀ tally₀ status₀ done₀ memory addresses cycles registers flow tally status done =
+μ-loop memory₀ budget addresses₀ cycles₀ first registers₀ flow₀ tally₀ status₀ done₀ memory addresses cycles registers flow tally status done =
     budget - done
+
+abbrev At : Type 0
+At = tie.At-loop Inv-loop μ-loop
+
+abbrev Turn : Type 0
+Turn = tie.In-loop Inv-loop μ-loop
+
+start-of : At → tie.Start Inv-loop μ-loop
+start-of c = search
+
+turn-of : tie.Else2 Inv-loop μ-loop → Turn
+turn-of c = search
+
+long-of : (start : tie.Start Inv-loop μ-loop) → length (start .args .pipeline .registers) ≡ 15
+long-of start = search needs
 
 flow-of-requires : tie.Need-flow-of-requires Inv-loop μ-loop
 flow-of-requires c κs = search needs
@@ -32,26 +46,25 @@ tally-of-requires c κs = search needs
 
 loop-holds : tie.Need-loop-holds Inv-loop μ-loop
 loop-holds c =
-    let flowed : tie.After-flow-of Inv-loop μ-loop = search in
+    let flowing : tie.After-flow-of Inv-loop μ-loop = search in
     let start : tie.Start Inv-loop μ-loop = search in
-    let long : length (start .args .pipeline .registers) ≡ 15 = search (needs, start .good .0 .1 .1 .1 .1 .1 .1 .1 .1 .0) in
-    (here-first _ (flowed .flow-of .ensures) long (c .tally-of .ensures) (start .pre .1) (omega (arith, start .pre .0)), omega arith, refl)
+    (here-first _ (flowing .flow-of .ensures) (long-of start) (c .tally-of .ensures) (start .pre .1) (omega (arith, start .pre .0)), omega arith, refl)
 
 is-bad-requires : tie.Need-is-bad-requires Inv-loop μ-loop
 is-bad-requires c κs = search needs
 
 sub-place : tie.Need-sub-place Inv-loop μ-loop
 sub-place c =
-    let turn : tie.At-loop Inv-loop μ-loop = search in
-    omega (arith, turn .loop .inv .0 .entered)
+    let at : At = search in
+    omega (arith, at .loop .inv .0 .entered)
 
 retires-requires : tie.Need-retires-requires Inv-loop μ-loop
 retires-requires c κs = search needs
 
 counted-requires : tie.Need-counted-requires Inv-loop μ-loop
 counted-requires c κs =
-    let turn : tie.At-loop Inv-loop μ-loop = search in
-    small-enough _ _ (omega arith) (turn .loop .inv .0 .small)
+    let at : At = search in
+    small-enough _ _ (omega arith) (at .loop .inv .0 .small)
 
 status-after-requires : tie.Need-status-after-requires Inv-loop μ-loop
 status-after-requires c κs = search needs
@@ -63,44 +76,45 @@ note-requires-2 : tie.Need-note-requires-2 Inv-loop μ-loop
 note-requires-2 c κs = search needs
 
 add-done : tie.Need-add-done Inv-loop μ-loop
+unfolding start-of
 add-done c =
-    let turn : tie.In-loop Inv-loop μ-loop = search in
-    let start : tie.Start Inv-loop μ-loop = search in
-    omega (arith, turn .loop-test .taken, start .fits .budget)
+    let turn : Turn = search in
+    omega (arith, turn .loop-test .taken, start-of (turn .before) .fits .budget)
 
 bad-in-w-requires : tie.Need-bad-in-w-requires Inv-loop μ-loop
 bad-in-w-requires c κs = search needs
 
 advance-requires : tie.Need-advance-requires Inv-loop μ-loop
 advance-requires c κs =
-    let turn : tie.At-loop Inv-loop μ-loop = search in
-    (turn .loop .inv .0 .long, turn .loop .inv .0 .ahead)
+    let turn : Turn = search in
+    (turn .before .loop .inv .0 .long, turn .before .loop .inv .0 .ahead)
 
 loop-less : tie.Need-loop-less Inv-loop μ-loop
+unfolding turn-of
 loop-less c =
-    let tested : tie.After-bad-in-w Inv-loop μ-loop = search in
-    let retired : tie.After-retires Inv-loop μ-loop = search in
-    let turn : tie.In-loop Inv-loop μ-loop = search in
-    omega (arith, turn .loop-test .taken)
+    let goes : tie.Else2 Inv-loop μ-loop = search in
+    omega (arith, turn-of goes .loop-test .taken)
 
 loop-again : tie.Need-loop-again Inv-loop μ-loop
+unfolding turn-of
 loop-again c =
     let advanced : tie.After-advance Inv-loop μ-loop = search in
+    let goes : tie.Else2 Inv-loop μ-loop = search in
     let tested : tie.After-bad-in-w Inv-loop μ-loop = search in
     let timed : tie.After-note2 Inv-loop μ-loop = search in
-    let noted : tie.After-note Inv-loop μ-loop = search in
-    let ended : tie.After-status-after Inv-loop μ-loop = search in
+    let entered : tie.After-note Inv-loop μ-loop = search in
+    let status : tie.After-status-after Inv-loop μ-loop = search in
     let counted : tie.After-counted Inv-loop μ-loop = search in
     let retired : tie.After-retires Inv-loop μ-loop = search in
-    let asked : tie.After-is-bad Inv-loop μ-loop = search in
-    let turn : tie.In-loop Inv-loop μ-loop = search in
-    let l : tie.At-loop Inv-loop μ-loop = search in (
-      here-next (l .loop .inv .0) (asked .is-bad .ensures) (retired .before .before .if1 .left) (retired .retires .ensures) (counted .counted .ensures)
-          (ended .status-after .ensures) (noted .note .ensures) (timed .note2 .ensures)
-          (tested .bad-in-w .ensures) (advanced .before .before .before .if2 .left) (advanced .advance .ensures .0) (advanced .advance .ensures .1)
-          (advanced .advance .ensures .2),
+    let runs : tie.Else1 Inv-loop μ-loop = search in
+    let bad : tie.After-is-bad Inv-loop μ-loop = search in
+    let turn = turn-of goes in
+    let inv = turn .before .loop .inv in (
+      here-next (inv .0) (bad .is-bad .ensures) (runs .if1 .left) (retired .retires .ensures) (counted .counted .ensures)
+          (status .status-after .ensures) (entered .note .ensures) (timed .note2 .ensures) (tested .bad-in-w .ensures) (goes .if2 .left)
+          (advanced .advance .ensures .0) (advanced .advance .ensures .1) (advanced .advance .ensures .2),
       omega (arith, turn .loop-test .taken),
-      advanced .advance .kept .1 .1 .1 .0 ∙ l .loop .inv .2,
+      (search (needs, advanced .advance .kept)) ∙ inv .2,
     )
 
 put-together-requires : tie.Need-put-together-requires Inv-loop μ-loop
@@ -109,21 +123,27 @@ put-together-requires c κs = search needs
 -- the ways out: the budget is spent, the machine had stopped, it stops in this clock
 returns : tie.Need-returns Inv-loop μ-loop
 returns c =
-    let l = c .before .before in
-    let from = same-start (l .before .before .flow-of .ensures) (l .before .tally-of .ensures) in
+    let at : At = search in
+    let counts : tie.After-tally-of Inv-loop μ-loop = search in
+    let flowing : tie.After-flow-of Inv-loop μ-loop = search in
+    let inv = at .loop .inv in
+    let from = same-start (flowing .flow-of .ensures) (counts .tally-of .ensures) in
     ⊎-elim
-    (λ w. at-budget _ from (l .loop .inv .0) (c .put-together .ensures) (w .1) (w .2) (w .3) (w .4) (omega (arith, l .loop .inv .1)))
+    (λ (over, ea, ey, et, ex, ed). at-budget _ from (inv .0) (c .put-together .ensures) ea ey et ex (omega (arith, inv .1)))
     (⊎-elim
-    (λ w. at-stop _ from (l .loop .inv .0) (c .put-together .ensures) (w .3) (w .4) (w .5) (w .6) (l .loop .inv .1) (sym (w .1 .ensures) ∙ w .2 .taken))
-    (λ w.
+    (λ (turn, bad, stopped, ea, ey, et, ex, ed).
+    at-stop _ from (inv .0) (c .put-together .ensures) ea ey et ex (inv .1) (sym (bad .ensures) ∙ stopped .taken))
+    (λ (turn, bad, runs, w, retired, counted, status, lent, entered, addresses, known, lent′, timed, cycles, known′, tested, stops, ea, ey, et, ex, ed).
     let h =
-    here-stopped (l .loop .inv .0) (w .1 .ensures) (w .2 .left) (w .4 .ensures) (w .5 .ensures) (w .6 .ensures) (w .8 .ensures) (w .12 .ensures)
-    (w .15 .ensures) (w .16 .taken) in
-    at-stop _ from (h .0) (c .put-together .ensures) (w .17) (w .18) (w .19) (w .20) (omega (arith, w .0 .taken)) (h .1)))
+    here-stopped (inv .0) (bad .ensures) (runs .left) (retired .ensures) (counted .ensures) (status .ensures) (entered .ensures) (timed .ensures)
+    (tested .ensures) (stops .taken) in
+    at-stop _ from (h .0) (c .put-together .ensures) ea ey et ex (omega (arith, turn .taken)) (h .1)))
     (c .before .loop-test .came)
 
 same-length : tie.Need-same-length Inv-loop μ-loop
-same-length c = c .before .before .loop .inv .2
+same-length c =
+    let at : At = search in
+    at .loop .inv .2
 
 same-length-2 : tie.Need-same-length-2 Inv-loop μ-loop
 same-length-2 c = same-lengths _ _ _ _ _ _ _ (returns c) .0
