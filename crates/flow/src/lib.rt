@@ -29,6 +29,7 @@ use stage::working::memory_after;
 use stage::working::registers_after;
 ghost use mathlib.Core.Path.{_≡_};
 ghost use lib.ListN.{length};
+ghost use Rattle.machine.specs.Memory.{lent};
 ghost use Rattle.clocked.specs.Pipeline.{memoryAfter, registersAfter};
 ghost use Rattle.stage.specs.Forwarding.{sourcesD, targetsM, targetsW};
 ghost use Rattle.flow.specs.Moving.{aheadOf, signalsBy, fetchedIn, decodedIn, flowAfter};
@@ -78,7 +79,7 @@ fn signals_now(
 }
 
 fn fetch_now(m: StageM, w: StageW, predicted: u64, memory: &[u8]) -> Instruction
-    ensures { λ r. ⌜ r ≡ fetchedIn m w predicted (now (memory .entry)) ⌝ }
+    ensures { λ r. ⌜ r ≡ fetchedIn m w predicted (lent (now (memory .entry))) ⌝ }
 {
     instruction_at(memory, fetch_address(m, w, predicted))
 }
@@ -107,9 +108,9 @@ fn write_and_decode(
 // A clock in which no bad status stands in W: memory is read before its write.
 pub fn advance(flow: Flow, registers: &mut [u64; REGISTERS], memory: &mut [u8]) -> Flow
     requires { ⌜ (length (now registers) ≡ 15) × (flow .targets ≡ aheadOf (flow .m) (flow .w)) ⌝ }
-    ensures { λ r. ⌜ (r ≡ flowAfter flow (now (registers .entry)) (now (memory .entry)))
+    ensures { λ r. ⌜ (r ≡ flowAfter flow (now (registers .entry)) (lent (now (memory .entry))))
         × (now (registers .exit) ≡ registersAfter (flow .w) (now (registers .entry)))
-        × (now (memory .exit) ≡ memoryAfter (flow .m) (now (memory .entry))) ⌝ }
+        × (lent (now (memory .exit)) ≡ memoryAfter (flow .m) (lent (now (memory .entry)))) ⌝ }
 {
     let d = flow.d;
     let e = flow.e;

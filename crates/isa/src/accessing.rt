@@ -10,7 +10,7 @@ use machine::Executed;
 use machine::Status;
 ghost use mathlib.Core.Path.{_≡_};
 ghost use mathlib.Core.Bool.{cond};
-ghost use Rattle.machine.specs.Memory.{load as loadOf};
+ghost use Rattle.machine.specs.Memory.{lent, load as loadOf};
 ghost use Rattle.machine.specs.Stages.{loads, accessAddress, storedWord, accessStatus, access as accessOf, newMemory};
 ghost use Rattle.isa.specs.Decisions.{accessKind};
 
@@ -41,7 +41,7 @@ fn stored_word(kind: u8, x: Executed) -> u64
 // An access outside memory is ADR, whatever the status was.
 fn access_status(kind: u8, x: Executed, memory: &[u8]) -> Status
     requires { ⌜ kind ≡ accessKind x ⌝ }
-    ensures { λ r. ⌜ r ≡ accessStatus x (now (memory .entry)) ⌝ }
+    ensures { λ r. ⌜ r ≡ accessStatus x (lent (now (memory .entry))) ⌝ }
 {
     let i = x.instruction;
     if (kind != NO_ACCESS) & !word::inside(memory, access_address(kind, x)) {
@@ -53,7 +53,7 @@ fn access_status(kind: u8, x: Executed, memory: &[u8]) -> Status
 // The word loaded, 0 where none is.
 fn loaded_word(kind: u8, x: Executed, memory: &[u8]) -> u64
     requires { ⌜ kind ≡ accessKind x ⌝ }
-    ensures { λ r. ⌜ r ≡ cond (loads (x .instruction)) (loadOf (now (memory .entry)) (accessAddress x)) 0 ⌝ }
+    ensures { λ r. ⌜ r ≡ cond (loads (x .instruction)) (loadOf (lent (now (memory .entry))) (accessAddress x)) 0 ⌝ }
 {
     let loads = (kind == LOADS_AT_E) | (kind == LOADS_AT_A);
     if loads {
@@ -64,7 +64,7 @@ fn loaded_word(kind: u8, x: Executed, memory: &[u8]) -> u64
 }
 
 pub fn access(x: Executed, memory: &[u8]) -> Accessed
-    ensures { λ r. ⌜ r ≡ accessOf x (now (memory .entry)) ⌝ }
+    ensures { λ r. ⌜ r ≡ accessOf x (lent (now (memory .entry))) ⌝ }
 {
     let i = x.instruction;
     let kind = accesses_of(i.code);
@@ -81,7 +81,7 @@ pub fn access(x: Executed, memory: &[u8]) -> Accessed
 
 // The clock's or the step's write.
 pub fn update(x: Executed, memory: &mut [u8])
-    ensures { λ _. ⌜ now (memory .exit) ≡ newMemory x (now (memory .entry)) ⌝ }
+    ensures { λ _. ⌜ lent (now (memory .exit)) ≡ newMemory x (lent (now (memory .entry))) ⌝ }
 {
     let i = x.instruction;
     let kind = accesses_of(i.code);

@@ -13,6 +13,7 @@ use isa::executing::new_codes;
 use machine::Codes;
 use machine::REGISTERS;
 ghost use mathlib.Core.Path.{_≡_};
+ghost use Rattle.machine.specs.Memory.{lent};
 ghost use Rattle.clocked.specs.Pipeline.{afterE, afterM, codesAfter, memoryAfter};
 ghost use Rattle.stage.specs.Forwarding.{writtenBy};
 
@@ -28,7 +29,7 @@ pub fn after_e(e: StageE, codes: Codes) -> StageM
 
 // M's instruction after its access, which reads memory before the clock's write.
 pub fn after_m(m: StageM, memory: &[u8]) -> StageW
-    ensures { λ r. ⌜ r ≡ afterM m (now (memory .entry)) ⌝ }
+    ensures { λ r. ⌜ r ≡ afterM m (lent (now (memory .entry))) ⌝ }
 {
     match m {
         StageM::BubbleM => StageW::BubbleW,
@@ -47,7 +48,7 @@ pub fn codes_after(e: StageE, codes: Codes) -> Codes
 
 // The clock's write.
 pub fn memory_after(m: StageM, memory: &mut [u8])
-    ensures { λ _. ⌜ now (memory .exit) ≡ memoryAfter m (now (memory .entry)) ⌝ }
+    ensures { λ _. ⌜ lent (now (memory .exit)) ≡ memoryAfter m (lent (now (memory .entry))) ⌝ }
 {
     match m {
         StageM::BubbleM => {}
