@@ -9,7 +9,7 @@ use lib.ListN.{length}
 use borrow.Author.Tests.{eq-eqb, ne-eqb, ltb-false}
 use Rattle.clocked.specs.declared.Pipeline.{Pipeline}
 use Rattle.answers.specs.Logs.{laid-none}
-use Rattle.machine.specs.Memory.{Memory}
+use Rattle.machine.specs.Memory.{Memory, size}
 use Rattle.clocked.specs.Prediction.{asIn01}
 use Rattle.clocked.specs.Pipeline.{pipedOf, clocks}
 use Rattle.machine.specs.Runs.{sizeRefused, budgetRefused, logRefused}
@@ -20,12 +20,12 @@ use Rattle.pipe.specs.Parts.{refusalBy, answerBy}
 use Rattle.answers.specs.Refusals.{failed}
 use Rattle.laws.specs.Tests.{neither}
 
-module _ (short : Bool) (k : Pipeline) (m : Memory) (budget : ℕ) (a y : List ℕ) (n : ℕ) (e : n ≡ refusalBy short k (length m) budget) where
+module _ (short : Bool) (k : Pipeline) (m : Memory) (budget : ℕ) (a y : List ℕ) (n : ℕ) (e : n ≡ refusalBy short k (size m) budget) where
   pub refused : (n ≡ 0 → ⊥) → pipeAnswer n k m a y ≡ answerBy short k m budget a y
   unfolding answerBy
   refused h = cc (ne-eqb n 0 h)
 
-  pub not-refused : n ≡ 0 → (p : Pipeline) (m′ a′ y′ : List ℕ) → pipeAnswer 0 p m′ a′ y′ ≡ pipeDone (clocks asIn01 (pipedOf k m) budget) a y
+  pub not-refused : n ≡ 0 → (p : Pipeline) (m′ : Memory) (a′ y′ : List ℕ) → pipeAnswer 0 p m′ a′ y′ ≡ pipeDone (clocks asIn01 (pipedOf k m) budget) a y
       → pipeAnswer 0 p m′ a′ y′ ≡ answerBy short k m budget a y
   unfolding answerBy
   not-refused h p m′ a′ y′ d = cc (eq-eqb n 0 h)
@@ -64,13 +64,14 @@ with-logs k m budget a y t e = e ∙ by-logs (length a ∷ length y ∷ []) _ k 
 abbrev bare : PipeAnswer → PipeAnswer
 bare t = pipeAnswer (t .number) (t .pipeline) (t .memory) [] []
 
-pub without-logs : (k : Pipeline) (m : Memory) (budget n : ℕ) (p : Pipeline) (m′ a′ y′ : List ℕ) → pipeAnswer n p m′ a′ y′ ≡ answerBy false k m budget [] []
+pub without-logs : (k : Pipeline) (m : Memory) (budget n : ℕ) (p : Pipeline) (m′ : Memory) (a′ y′ : List ℕ)
+    → pipeAnswer n p m′ a′ y′ ≡ answerBy false k m budget [] []
     → pipeAnswer n p m′ [] [] ≡ pipeRunUnlogged asIn01 k m budget
 unfolding pipeRunUnlogged logRefused answerBy pipeDone
-without-logs k m budget n p m′ a′ y′ e = ap bare e ∙ (go (eqb (refusalBy false k (length m) budget) 0) ∙ by-logs [] false k m budget [] [] refl)
+without-logs k m budget n p m′ a′ y′ e = ap bare e ∙ (go (eqb (refusalBy false k (size m) budget) 0) ∙ by-logs [] false k m budget [] [] refl)
   where
-    go : (b : Bool) → bare (cond b (pipeDone (clocks asIn01 (pipedOf k m) budget) [] []) (pipeAnswer (refusalBy false k (length m) budget) k m [] []))
-        ≡ cond b (pipeDone (clocks asIn01 (pipedOf k m) budget) [] []) (pipeAnswer (refusalBy false k (length m) budget) k m [] [])
+    go : (b : Bool) → bare (cond b (pipeDone (clocks asIn01 (pipedOf k m) budget) [] []) (pipeAnswer (refusalBy false k (size m) budget) k m [] []))
+        ≡ cond b (pipeDone (clocks asIn01 (pipedOf k m) budget) [] []) (pipeAnswer (refusalBy false k (size m) budget) k m [] [])
     go true = simp laid-none
     go false = refl
 

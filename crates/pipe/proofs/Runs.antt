@@ -96,7 +96,7 @@ small-enough n t h s = record { retired = omega arith; cycles = omega arith; loa
 
 -- FROM CLOCK TO CLOCK
 -- after n clocks of a run from p₀ that began with first retirements and the logs a₀ and y₀
-pub record Here (p₀ : Piped) (first : ℕ) (a₀ y₀ : List ℕ) (n : ℕ) (f : Flow) (t : Tally) (x : Status) (r m a y : List ℕ) : Type 0 where
+pub record Here (p₀ : Piped) (first : ℕ) (a₀ y₀ : List ℕ) (n : ℕ) (f : Flow) (t : Tally) (x : Status) (r : List ℕ) (m : Memory) (a y : List ℕ) : Type 0 where
   pub entries : List ℕ
   pub times : List ℕ
   pub state : clocks asIn01 p₀ n ≡ piped (whole f t x r) m entries times
@@ -108,8 +108,8 @@ pub record Here (p₀ : Piped) (first : ℕ) (a₀ y₀ : List ℕ) (n : ℕ) (f
   pub ahead : f .targets ≡ aheadOf (f .m) (f .w)
   pub long : length r ≡ 15
 
-pub here-first : {f : Flow} {t : Tally} {x : Status} {r m a y : List ℕ} (k : Pipeline) → f ≡ flowOf k → length r ≡ 15 → t ≡ tallyOf k → countsRefused k ≡ false
-    → k .cycles ≤ pipeLimit
+pub here-first : {f : Flow} {t : Tally} {x : Status} {r : List ℕ} {m : Memory} {a y : List ℕ} (k : Pipeline) → f ≡ flowOf k
+    → length r ≡ 15 → t ≡ tallyOf k → countsRefused k ≡ false → k .cycles ≤ pipeLimit
     → Here (pipedOf (whole f t x r) m) (k .retired) a y 0 f t x r m a y
 unfolding clocks laid flowOf tallyOf
 here-first k i l e h c =
@@ -127,11 +127,13 @@ here-first k i l e h c =
     }
 
 -- one clock more of a machine that has not stopped; b, q and v are what the code found bad, retiring and bad in W
-module _ {p₀ : Piped} {first : ℕ} {a₀ y₀ : List ℕ} {n : ℕ} {f : Flow} {t t′ : Tally} {x x′ : Status} {r m a y a′ y′ : List ℕ} {b q v : Bool}
+module _ {p₀ : Piped} {first : ℕ} {a₀ y₀ : List ℕ} {n : ℕ} {f : Flow} {t t′ : Tally} {x x′ : Status} {r : List ℕ} {m : Memory}
+    {a y a′ y′ : List ℕ} {b q v : Bool}
     (h : Here p₀ first a₀ y₀ n f t x r m a y) (eb : b ≡ isBad x) (good : b ≡ false) (eq : q ≡ retires (f .w)) (et : t′ ≡ tallyAfter t (f .w))
     (ex : x′ ≡ statusAfter (f .w))
     (ea : a′ ≡ noted q (t .retired - first) (t′ .last) a) (ey : y′ ≡ noted q (t .retired - first) (t′ .cycles) y) (ev : v ≡ badInW (f .w)) where
-  here-after : (f′ : Flow) (r′ m′ : List ℕ) → clock asIn01 (piped (whole f t x r) m (h .entries) (h .times)) ≡ after t (h .entries) (h .times) (f .w) f′ r′ m′
+  here-after : (f′ : Flow) (r′ : List ℕ) (m′ : Memory)
+      → clock asIn01 (piped (whole f t x r) m (h .entries) (h .times)) ≡ after t (h .entries) (h .times) (f .w) f′ r′ m′
       → f′ .targets ≡ aheadOf (f′ .m) (f′ .w) → length r′ ≡ 15 → Here p₀ first a₀ y₀ (n + 1) f′ t′ x′ r′ m′ a′ y′
   unfolding clocks tallyAfter
   here-after f′ r′ m′ e i l =
@@ -151,7 +153,7 @@ module _ {p₀ : Piped} {first : ℕ} {a₀ y₀ : List ℕ} {n : ℕ} {f : Flow
         long = l;
       }
 
-  pub here-next : {f′ : Flow} {r′ m′ : List ℕ} → v ≡ false → f′ ≡ flowAfter f r m → r′ ≡ registersAfter (f .w) r → m′ ≡ memoryAfter (f .m) m
+  pub here-next : {f′ : Flow} {r′ : List ℕ} {m′ : Memory} → v ≡ false → f′ ≡ flowAfter f r m → r′ ≡ registersAfter (f .w) r → m′ ≡ memoryAfter (f .m) m
       → Here p₀ first a₀ y₀ (n + 1) f′ t′ x′ r′ m′ a′ y′
   unfolding flowAfter shiftedOf
   here-next w ef er em = rw (ef, er, em) (here-after _ _ _ (goes f t x r m (h .entries) (h .times) (cc) (cc)) refl (length-after-w (f .w) r ∙ h .long))
@@ -167,7 +169,7 @@ same-start ef et = rw (ef, et)
 
 -- by each way out of the loop the variables primed are those that it left
 module _ {p₀ : Piped} {k : Pipeline} {m₀ : Memory} {first : ℕ} {a₀ y₀ : List ℕ} {n : ℕ} {f : Flow} {t t′ : Tally} {x x′ : Status}
-    {r m a y a′ y′ : List ℕ} {p : Pipeline} (budget : ℕ) (from : p₀ ≡ pipedOf k m₀) (h : Here p₀ first a₀ y₀ n f t x r m a y)
+    {r : List ℕ} {m : Memory} {a y a′ y′ : List ℕ} {p : Pipeline} (budget : ℕ) (from : p₀ ≡ pipedOf k m₀) (h : Here p₀ first a₀ y₀ n f t x r m a y)
     (to : p ≡ whole f t′ x′ r) (ea : a′ ≡ a) (ey : y′ ≡ y) (et : t′ ≡ t) (ex : x′ ≡ x) where
   pub at-budget : n ≡ budget → pipeAnswer 0 p m a′ y′ ≡ pipeDone (clocks asIn01 (pipedOf k m₀) budget) a₀ y₀
   unfolding pipeDone
@@ -181,7 +183,8 @@ module _ {p₀ : Piped} {k : Pipeline} {m₀ : Memory} {first : ℕ} {a₀ y₀ 
       cc (stays asIn01 p₀ n (budget - n) bad)
 
 -- the logs keep their lengths
-pub same-lengths : (k : Pipeline) (m a y a₀ y₀ : List ℕ) (p : Piped) → pipeAnswer 0 k m a y ≡ pipeDone p a₀ y₀ → (length a ≡ length a₀) × (length y ≡ length y₀)
+pub same-lengths : (k : Pipeline) (m : Memory) (a y a₀ y₀ : List ℕ) (p : Piped) → pipeAnswer 0 k m a y ≡ pipeDone p a₀ y₀
+    → (length a ≡ length a₀) × (length y ≡ length y₀)
 unfolding pipeDone
 same-lengths k m a y a₀ y₀ p e = (
   ap (λ (t : PipeAnswer). length (t .addresses)) e ∙ laid-length (p .addressLog) a₀,

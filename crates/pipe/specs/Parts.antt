@@ -3,10 +3,10 @@ use Prim.Native.Nat.{ℕ}
 use mathlib.Core.Bool.{Bool, cond}
 use mathlib.Core.List.{List, [], _∷_}
 use lib.Dec.{eqb}
-use lib.ListN.{length, set}
+use lib.ListN.{set}
 use Rattle.clocked.specs.declared.Pipeline.{Pipeline}
 use Rattle.machine.specs.declared.Status.{Status}
-use Rattle.machine.specs.Memory.{Memory, Registers}
+use Rattle.machine.specs.Memory.{Memory, Registers, size}
 use Rattle.clocked.specs.Prediction.{asIn01}
 use Rattle.clocked.specs.Pipeline.{pipedOf, clocks}
 use Rattle.machine.specs.Runs.{sizeRefused, budgetRefused, lowest}
@@ -57,5 +57,5 @@ refusalBy short k size budget =
 -- the answer of every entry
 unfoldable pub answerBy : Bool → Pipeline → Memory → ℕ → List ℕ → List ℕ → PipeAnswer
 answerBy short k m budget a y =
-    let n = refusalBy short k (length m) budget in
+    let n = refusalBy short k (size m) budget in
     cond (eqb n 0) (pipeDone (clocks asIn01 (pipedOf k m) budget) a y) (pipeAnswer n k m a y)

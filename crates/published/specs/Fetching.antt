@@ -146,4 +146,5 @@ fetch-bad m a bad b e = checked-bad _ _ _ _ _ _ bad refl b e
 -- "Only then is 0x00 HLT."
 pub fetch-halt : (m : Memory) (a : ℕ) → a < size m → M₁ m a ≡ 0 → fetch m a .status ≡ hlt
 unfolding fetch parsed ownBytes sizeAt checked stopping halvesFit rowOf table
-fetch-halt m a h e = ap (λ b. parsed a b .status) (ap (λ b. take (rowOf (b / 16) .size) (drop a (m .bytes))) e ∙ ap (take 1) (drop-cons (m .bytes) a 0 h) ∙ ap (_∷ []) e)
+fetch-halt m a h e =
+    ap (λ b. parsed a b .status) (ap (λ b. take (rowOf (b / 16) .size) (drop a (m .bytes))) e ∙ ap (take 1) (drop-cons (m .bytes) a 0 h) ∙ ap (_∷ []) e)
