@@ -8,7 +8,7 @@ use lib.ListN.{length, take, getD, set, length-set}
 use lib.Seq.{take-suc, take-suc-set, take-length, length-take-le}
 use borrow.Author.Tests.{lt-ltb}
 use Rattle.machine.specs.Words.{number, placed}
-use Rattle.machine.specs.Memory.{lent, inside, load, store}
+use Rattle.machine.specs.Memory.{Memory, lent, inside, load, store}
 use Rattle.laws.specs.Memory.{length-placed}
 use Rattle.block.specs.Block.{wordsIn, withWords}
 
@@ -42,7 +42,9 @@ load-there b a v h e = cc (lt-ltb (a + 7) (length b) (omega arith))
 
 store-there : (b b′ : List ℕ) (a v : ℕ) → a + 8 ≤ length b → lent b′ ≡ store (lent b) a v → b′ ≡ placed 8 b a v
 unfolding store inside
-store-there b b′ a v h e = cc (lt-ltb (a + 7) (length b) (omega arith))
+store-there b b′ a v h e =
+    let there = lt-ltb (a + 7) (length b) (omega arith) in
+    ap (λ (m : Memory). m .bytes) (rw there at e)
 
 -- the first k words have been read
 pub record Reads (b words : List ℕ) (k : ℕ) : Type 0 where

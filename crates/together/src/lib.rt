@@ -1,6 +1,7 @@
 // Both engines from one start, for a caller who wants to compare them.
 use machine::Codes;
 use machine::REGISTERS;
+ghost use Rattle.machine.specs.Memory.{lent};
 ghost use Rattle.machine.specs.Runs.{plainAnswer};
 ghost use Rattle.clocked.specs.PipeRuns.{pipeAnswer};
 ghost use Rattle.together.specs.Both.{startOf, bothAnswer, RunsBoth};
@@ -24,10 +25,10 @@ pub fn run_both(
     addresses: &mut [u64],
     cycles: &mut [u64],
 ) -> Both
-    ensures { λ r. ⌜ RunsBoth (startOf registers codes address (now (memory .entry))) (now (copy .entry)) budget clocked
+    ensures { λ r. ⌜ RunsBoth (startOf registers codes address (lent (now (memory .entry)))) (lent (now (copy .entry))) budget clocked
         (now (log .entry)) (now (addresses .entry)) (now (cycles .entry))
-        (bothAnswer (plainAnswer (r .plain .number) (r .plain .machine) (now (memory .exit)) (now (log .exit)))
-        (pipeAnswer (r .pipe .number) (r .pipe .pipeline) (now (copy .exit)) (now (addresses .exit)) (now (cycles .exit)))) ⌝ }
+        (bothAnswer (plainAnswer (r .plain .number) (r .plain .machine) (lent (now (memory .exit))) (now (log .exit)))
+        (pipeAnswer (r .pipe .number) (r .pipe .pipeline) (lent (now (copy .exit))) (now (addresses .exit)) (now (cycles .exit)))) ⌝ }
 {
     let machine = plain::start(registers, codes, address);
     let plain = plain::run(machine, memory, budget, log);
