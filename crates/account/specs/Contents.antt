@@ -13,7 +13,7 @@ use lib.Seq.{getD-set-same, getD-set-other, getD-drop}
 use Rattle.account.specs.Names.{Status, Instruction, Executed, Accessed, Kept}
 use Rattle.account.specs.Names.{StageD, bubbleD, inD, StageE, bubbleE, inE, StageM, bubbleM, inM, StageW, bubbleW, inW}
 use Rattle.machine.specs.Words.{placed}
-use Rattle.machine.specs.Memory.{Memory, inside, store}
+use Rattle.machine.specs.Memory.{Memory, lent, size, inside, store}
 use Rattle.machine.specs.Table.{RegisterByte, noByte, bothNamed, onlyB, onlyA, rowOf, table, is, cmov, jump, operation}
 use Rattle.machine.specs.Fetch.{fetch, parsed, stopping, half, ownBytes, sizeAt}
 use Rattle.machine.specs.Stages.{decode, execute, access, stores, accessAddress, storedWord, newMemory}
@@ -27,27 +27,27 @@ use Rattle.clocked.specs.PipeRuns.{recordRefused, pipeLimit, pipeRefusal}
 use Rattle.account.specs.Statement.{Start, pipedFrom}
 use Rattle.account.specs.Laws.{checked-any}
 use Rattle.laws.specs.Tests.{neither}
-use Rattle.account.specs.Sight.{length-newMemory}
+use Rattle.account.specs.Sight.{size-newMemory}
 use Rattle.account.specs.Timing.{total}
 use Rattle.account.specs.Retirement.{clock-any}
 use Rattle.account.specs.Own.{counts-within}
 
 -- "Memory is N lent bytes"
-abbrev pub Bytes : Memory → Type 0
-Bytes m = (x : ℕ) → getD m x 0 < 256
+abbrev pub Bytes : List ℕ → Type 0
+Bytes b = (x : ℕ) → getD b x 0 < 256
 
 -- BYTES STAY BYTES
-bytes-take : (n : ℕ) (m : Memory) → Bytes m → Bytes (take n m)
+bytes-take : (n : ℕ) (m : List ℕ) → Bytes m → Bytes (take n m)
 bytes-take zero m h x = omega arith
 bytes-take (suc n) [] h x = omega arith
 bytes-take (suc n) (b ∷ m) h zero = h 0
 bytes-take (suc n) (b ∷ m) h (suc x) = bytes-take n m (λ y. h (suc y)) x
 
-bytes-own : (m : Memory) (a : ℕ) → Bytes m → Bytes (ownBytes m a)
+bytes-own : (m : Memory) (a : ℕ) → Bytes (m .bytes) → Bytes (ownBytes m a)
 unfolding ownBytes
-bytes-own m a h = bytes-take (sizeAt m a) (drop a m) (λ x. subst (λ (y : ℕ). y < 256) (sym (getD-drop a m x 0)) (h (a + x)))
+bytes-own m a h = bytes-take (sizeAt m a) (drop a (m .bytes)) (λ x. subst (λ (y : ℕ). y < 256) (sym (getD-drop a (m .bytes) x 0)) (h (a + x)))
 
-bytes-set : (m : Memory) (a v : ℕ) → v < 256 → Bytes m → Bytes (set m a v)
+bytes-set : (m : List ℕ) (a v : ℕ) → v < 256 → Bytes m → Bytes (set m a v)
 bytes-set m a v b h x = go (ℕ-discrete a x) (decLt x (length m))
   where
     go : Dec (a ≡ x) → Dec (x < length m) → getD (set m a v) x 0 < 256
@@ -55,19 +55,19 @@ bytes-set m a v b h x = go (ℕ-discrete a x) (decLt x (length m))
     go (yes e) (yes q) = subst (λ (y : ℕ). getD (set m a v) y 0 < 256) e (subst (λ (y : ℕ). y < 256) (sym (getD-set-same m a v 0 (omega arith))) b)
     go (no e) (yes q) = subst (λ (y : ℕ). y < 256) (sym (getD-set-other m a x v 0 (λ z. e (sym z)))) (h x)
 
-bytes-placed : (k : ℕ) (m : Memory) (a v : ℕ) → Bytes m → Bytes (placed k m a v)
+bytes-placed : (k : ℕ) (m : List ℕ) (a v : ℕ) → Bytes m → Bytes (placed k m a v)
 unfolding placed
 bytes-placed zero m a v h = h
 bytes-placed (suc k) m a v h = bytes-placed k (set m a (v % 256)) (a + 1) (v / 256) (bytes-set m a (v % 256) (mod-lt v (omega arith)) h)
 
-bytes-stored : (x : Executed) (m : Memory) → Bytes m → Bytes (newMemory x m)
+bytes-stored : (x : Executed) (m : Memory) → Bytes (m .bytes) → Bytes (newMemory x m .bytes)
 unfolding newMemory store
 bytes-stored x m h = go (stores (x .instruction)) (inside m (accessAddress x))
   where
-    go : (b c : Bool) → Bytes (cond b (cond c (placed 8 m (accessAddress x) (storedWord x)) m) m)
+    go : (b c : Bool) → Bytes (cond b (cond c (lent (placed 8 (m .bytes) (accessAddress x) (storedWord x))) m) m .bytes)
     go false c = h
     go true false = h
-    go true true = bytes-placed 8 m (accessAddress x) (storedWord x) h
+    go true true = bytes-placed 8 (m .bytes) (accessAddress x) (storedWord x) h
 
 -- A FETCHED INSTRUCTION is not refused
 stopping-fits : (a : ℕ) (x : Status) → instructionRefused (stopping a x) ≡ false
@@ -94,7 +94,7 @@ fits i a b f =
       and-false (is cmov i || (is jump i || is operation i)),
     )
 
-fetch-fits : (m : Memory) (a : ℕ) → Bytes m → instructionRefused (fetch m a) ≡ false
+fetch-fits : (m : Memory) (a : ℕ) → Bytes (m .bytes) → instructionRefused (fetch m a) ≡ false
 unfolding fetch parsed
 fetch-fits m a h =
     checked-any (λ i. instructionRefused i ≡ false) _ _ _ _ _ _ (stopping-fits a)
@@ -126,18 +126,18 @@ unfolding keptAfter retiredOf refusedInW refusedKept
 kept-fits bubbleW k h l = l
 kept-fits (inW w) k h l = h
 
-length-after : (m : StageM) (y : Memory) → length (memoryAfter m y) ≡ length y
+size-after : (m : StageM) (y : Memory) → size (memoryAfter m y) ≡ size y
 unfolding memoryAfter
-length-after bubbleM y = refl
-length-after (inM x) y = length-newMemory x y
+size-after bubbleM y = refl
+size-after (inM x) y = size-newMemory x y
 
-bytes-after : (m : StageM) (y : Memory) → Bytes y → Bytes (memoryAfter m y)
+bytes-after : (m : StageM) (y : Memory) → Bytes (y .bytes) → Bytes (memoryAfter m y .bytes)
 unfolding memoryAfter
 bytes-after bubbleM y h = h
 bytes-after (inM x) y h = bytes-stored x y h
 
 record Fits (p : Piped) : Type 0 where
-  bytes : Bytes (p .memory)
+  bytes : Bytes (p .memory .bytes)
   inD′ : refusedInD (p .pipeline .d) ≡ false
   inE′ : refusedInE (p .pipeline .e) ≡ false
   inM′ : refusedInM (p .pipeline .m) ≡ false
@@ -181,7 +181,7 @@ counts-fit p h =
       le-ltb (p .pipeline .cycles) (p .pipeline .kinds .returned) (omega arith),
     )
 
-module _ (g : Core) (t : Start) (h : Bytes (t .memory)) where
+module _ (g : Core) (t : Start) (h : Bytes (t .memory .bytes)) where
   fits-clocks : (c : ℕ) → Fits (clocks g (pipedFrom t) c)
   unfolding clocks pipedFrom pipeStart refusedInD refusedInE refusedInM refusedInW refusedKept
   fits-clocks zero = record { bytes = h; inD′ = refl; inE′ = refl; inM′ = refl; inW′ = refl; kept = refl }
@@ -204,39 +204,39 @@ module _ (g : Core) (t : Start) (h : Bytes (t .memory)) where
 
   -- CLOCK BY CLOCK: memory keeps its size, and a clock counts one cycle at most
   record Within (p : Piped) (c : ℕ) : Type 0 where
-    size : length (p .memory) ≡ length (t .memory)
+    sized : size (p .memory) ≡ size (t .memory)
     cycles : p .pipeline .cycles ≤ c
 
   within-clock : (p : Piped) (c : ℕ) → Within p c → Within (clock g p) (suc c)
   unfolding advanced stoppedIn
   within-clock p c k =
-      clock-any g p (λ q. Within q (suc c)) (record { size = k .size; cycles = omega (arith, k .cycles) })
-      (record { size = length-after (p .pipeline .m) (p .memory) ∙ k .size; cycles = omega (arith, k .cycles) })
-      (λ w. record { size = k .size; cycles = omega (arith, k .cycles) })
+      clock-any g p (λ q. Within q (suc c)) (record { sized = k .sized; cycles = omega (arith, k .cycles) })
+      (record { sized = size-after (p .pipeline .m) (p .memory) ∙ k .sized; cycles = omega (arith, k .cycles) })
+      (λ w. record { sized = k .sized; cycles = omega (arith, k .cycles) })
 
   within-clocks : (c : ℕ) → Within (clocks g (pipedFrom t) c) c
   unfolding clocks pipedFrom pipeStart
-  within-clocks zero = record { size = refl; cycles = omega arith }
+  within-clocks zero = record { sized = refl; cycles = omega arith }
   within-clocks (suc c) = within-clock (clocks g (pipedFrom t) c) c (within-clocks c)
 
   -- so where a run of n is not refused, neither is a shorter one, nor any of n clocks made one by one
-  module _ (n : ℕ) (r : pipeRefusal (pipedFrom t .pipeline) (length (t .memory)) n [] ≡ 0) where
-    in-limit : (sizeRefused (length (t .memory)) ≡ false) × (n ≤ pipeLimit)
+  module _ (n : ℕ) (r : pipeRefusal (pipedFrom t .pipeline) (size (t .memory)) n [] ≡ 0) where
+    in-limit : (sizeRefused (size (t .memory)) ≡ false) × (n ≤ pipeLimit)
     unfolding pipeRefusal lowest budgetRefused pipedFrom pipeStart
     in-limit =
         let later : ℕ = cond (logRefused [] n) 4 (cond (recordRefused (pipedFrom t .pipeline)) 5 0) in
-        let f = tests-failed (sizeRefused (length (t .memory))) (budgetRefused pipeLimit 0 n) later r in
+        let f = tests-failed (sizeRefused (size (t .memory))) (budgetRefused pipeLimit 0 n) later r in
         (f .0, omega (arith, ltb-false pipeLimit (0 + n) (neither (eqb n 0) (ltb pipeLimit (0 + n)) (f .1) .1)))
 
-    pub shorter : (i : ℕ) → suc i ≤ n → pipeRefusal (pipedFrom t .pipeline) (length (t .memory)) (suc i) [] ≡ 0
+    pub shorter : (i : ℕ) → suc i ≤ n → pipeRefusal (pipedFrom t .pipeline) (size (t .memory)) (suc i) [] ≡ 0
     unfolding budgetRefused logRefused clocks pipedFrom pipeStart
     shorter i h =
         let below : ltb pipeLimit (0 + suc i) ≡ false = le-ltb pipeLimit (0 + suc i) (omega (arith, in-limit .1)) in
-        continues 0 (length (t .memory)) (suc i) [] (in-limit .0) (cc (eqb·suc-zero i)) refl
+        continues 0 (size (t .memory)) (suc i) [] (in-limit .0) (cc (eqb·suc-zero i)) refl
 
-    pub each-clock : (i : ℕ) → i < n → let p = clocks g (pipedFrom t) i in pipeRefusal (p .pipeline) (length (p .memory)) 1 [] ≡ 0
+    pub each-clock : (i : ℕ) → i < n → let p = clocks g (pipedFrom t) i in pipeRefusal (p .pipeline) (size (p .memory)) 1 [] ≡ 0
     unfolding budgetRefused logRefused
     each-clock i h =
         let k = within-clocks i in
         let c = clocks g (pipedFrom t) i .pipeline .cycles in
-        continues i _ 1 [] (rw (k .size) (in-limit .0)) (le-ltb pipeLimit (c + 1) (omega (arith, in-limit .1, k .cycles))) refl
+        continues i _ 1 [] (rw (k .sized) (in-limit .0)) (le-ltb pipeLimit (c + 1) (omega (arith, in-limit .1, k .cycles))) refl

@@ -1,13 +1,13 @@
 -- Demand 3 is not vacuous, its premise is tight, and memory and codes run ahead in mid-run: computed.
 use Prim.Native.Nat.{ℕ, suc, _≤_, _<_}
 use mathlib.Core.Bool.{Bool, true, false, true≢false}
-use mathlib.Core.List.{_∷_, _++_}
+use mathlib.Core.List.{List, _∷_, _++_}
 use mathlib.Core.Path.{_≡_, refl, ap, sym, _∙_}
 use native.Mathlib.Omega.{arith}
 use lib.ListN.{length, getD, replicate}
 use Rattle.account.specs.Names.{Status, aok, hlt, adr, ins, Codes, Kinds}
 use Rattle.machine.specs.Types.{statusNumber, isBad}
-use Rattle.machine.specs.Memory.{Memory, Registers}
+use Rattle.machine.specs.Memory.{Memory, lent, Registers}
 use Rattle.machine.specs.Plain.{Plain, isStopped, steps}
 use Rattle.clocked.specs.Prediction.{Core, core01, asIn01}
 use Rattle.clocked.specs.Charges.{due}
@@ -18,8 +18,8 @@ use Rattle.account.specs.Statement.{Start, plainFrom, pipedFrom, Agrees,
 use Rattle.account.specs.Decide.{UntouchedWithin, untouched, untouched-sound, touches, clear, all}
 
 -- registers 0, codes ZF=1, start 0
-from : Memory → Start
-from m = record { settings = asIn01; registers = replicate 15 0; codes = record { zf = true; sf = false; of = false }; address = 0; memory = m }
+from : List ℕ → Start
+from b = record { settings = asIn01; registers = replicate 15 0; codes = record { zf = true; sf = false; of = false }; address = 0; memory = lent b }
 
 -- what is computed: is the premise met by the first k instructions, with w in place of three; when is the k-th due; the plain engine
 -- after k instructions; and the pipeline after c clocks
@@ -34,11 +34,11 @@ pub record Figures : Type 0 where
   pub cycles : ℕ
   pub kinds : Kinds
 
-pub figures : ℕ → Memory → (k c : ℕ) → Figures
+pub figures : ℕ → List ℕ → (k c : ℕ) → Figures
 unfolding from computing plainFrom pipedFrom untouched touches clear all
-figures w m k c =
-    let s = plainFrom (from m) in
-    let p = clocks core01 (pipedFrom (from m)) c .pipeline in
+figures w b k c =
+    let s = plainFrom (from b) in
+    let p = clocks core01 (pipedFrom (from b)) c .pipeline in
     record {
       premise = untouched w s k;
       dueIn = due core01 s k;
@@ -53,7 +53,7 @@ figures w m k c =
 
 -- NOT VACUOUS
 -- 0: irmovq $64, %rsp; 10: call 20; 19: the instruction that stops; 20: mrmovq (%rsp), %rax; 30: addq %rax, %rax; 32: je 0; 41: ret
-pub program : ℕ → Memory
+pub program : ℕ → List ℕ
 program final =
     0x30 ∷ 0xf4 ∷ 64 ∷ replicate 7 0
     ++ (0x80 ∷ 20 ∷ replicate 7 0
@@ -83,7 +83,7 @@ each-stop = (refl, refl, refl)
 
 -- TIGHT
 -- rmmovq %rax, 12(%rcx), and nops: the store writes zeros, halts, at 12 to 19
-pub patching : Memory
+pub patching : List ℕ
 patching = 0x40 ∷ 0x01 ∷ 0x0c ∷ replicate 7 0 ++ replicate 10 0x10
 
 pub patched : (premise : Bool) → Status → (last retired cycles : ℕ) → Figures
@@ -163,7 +163,7 @@ memory-runs-ahead d =
     let s = plainFrom (from (program 0)) in
     let x = d core01 (from (program 0)) refl 6 (untouched-sound 3 s 7 refl) 5 (omega arith) in
     let one : 1 ≡ x .0 = x .1 .0 .retired in
-    let clash : _≡_ {A = ℕ} 19 0 = ap (λ (m : Memory). getD m 56 0) (x .1 .1 ∙ ap (λ (n : ℕ). steps s n .memory) (sym one)) in
+    let clash : _≡_ {A = ℕ} 19 0 = ap (λ (m : Memory). getD (m .bytes) 56 0) (x .1 .1 ∙ ap (λ (n : ℕ). steps s n .memory) (sym one)) in
     omega arith
 
 -- after 7 the addq has cleared ZF, and has not retired

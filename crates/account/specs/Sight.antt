@@ -1,17 +1,16 @@
 -- Within the premise a fetch sees the bytes that the plain engine will see, though up to three older stores are still to come.
-use Prim.Native.Nat.{ℕ, zero, suc, _+_, _-_, _≤_, _<_, _%_, _/_, min}
+use Prim.Native.Nat.{ℕ, zero, suc, _+_, _-_, _≤_, _<_, _/_, min}
 use mathlib.Core.Bool.{Bool, true, false, cond, _&&_}
 use mathlib.Core.Path.{_≡_, refl, ap, sym, _∙_}
 use native.Mathlib.Omega.{arith}
 use native.Mathlib.Decide.{decLt}
-use borrow.Author.Tests.{ltb-false, lt-ltb, le-leb}
+use borrow.Author.Tests.{lt-ltb, le-leb}
 use lib.Dec.{ltb, leb}
-use lib.ListN.{length, getD, set, take, drop, length-take, length-drop, List·getD-eq-default}
-use lib.Seq.{getD-set-other, ext-getD, getD-take, getD-drop}
+use lib.ListN.{length, getD, take, drop, length-take, length-drop, List·getD-eq-default}
+use lib.Seq.{ext-getD, getD-take, getD-drop}
 use Rattle.account.specs.Names.{Executed}
-use Rattle.laws.specs.Memory.{length-placed}
-use Rattle.machine.specs.Words.{placed}
-use Rattle.machine.specs.Memory.{Memory, inside, store}
+use Rattle.laws.specs.Memory.{size-stored, byte-stored}
+use Rattle.machine.specs.Memory.{Memory, size, inside, store}
 use Rattle.machine.specs.Table.{rowOf}
 use Rattle.machine.specs.Fetch.{fetch, parsed, ownBytes, sizeAt}
 use Rattle.machine.specs.Stages.{decode, execute, stores, accessAddress, storedWord, newMemory}
@@ -23,45 +22,29 @@ use Rattle.account.specs.Laws.{step-memory, stopped-before}
 use Rattle.account.specs.Relation.{Known}
 
 -- WHAT A STORE LEAVES
-getD-placed : (k : ℕ) (m : Memory) (a v x : ℕ) → (a ≤ x → a + k ≤ x) → getD (placed k m a v) x 0 ≡ getD m x 0
-unfolding placed
-getD-placed zero m a v x h = refl
-getD-placed (suc k) m a v x h =
-    getD-placed k (set m a (v % 256)) (a + 1) (v / 256) x (λ q. let z : a + suc k ≤ x = h (omega arith) in omega arith)
-    ∙ getD-set-other m a x (v % 256) 0 (λ e. let z : a + suc k ≤ x = h (omega arith) in omega arith)
-
-pub length-newMemory : (x : Executed) (m : Memory) → length (newMemory x m) ≡ length m
-unfolding newMemory store
-length-newMemory x m = go (stores (x .instruction)) (inside m (accessAddress x))
+pub size-newMemory : (x : Executed) (m : Memory) → size (newMemory x m) ≡ size m
+unfolding newMemory
+size-newMemory x m = go (stores (x .instruction))
   where
-    go : (b c : Bool) → length (cond b (cond c (placed 8 m (accessAddress x) (storedWord x)) m) m) ≡ length m
-    go false c = refl
-    go true false = refl
-    go true true = length-placed 8 m (accessAddress x) (storedWord x)
+    go : (b : Bool) → size (cond b (store m (accessAddress x) (storedWord x)) m) ≡ size m
+    go false = refl
+    go true = size-stored m (accessAddress x) (storedWord x)
 
-getD-newMemory : (x : Executed) (m : Memory) (a : ℕ)
+byte-newMemory : (x : Executed) (m : Memory) (a : ℕ)
     → (stores (x .instruction) && (inside m (accessAddress x) && (leb (accessAddress x) a && ltb a (accessAddress x + 8))) ≡ true → ⊥)
-    → getD (newMemory x m) a 0 ≡ getD m a 0
-unfolding newMemory store
-getD-newMemory x m a h = go (stores (x .instruction)) (inside m (accessAddress x)) h
+    → getD (newMemory x m .bytes) a 0 ≡ getD (m .bytes) a 0
+unfolding newMemory
+byte-newMemory x m a h = go (stores (x .instruction)) h
   where
-    go : (b c : Bool) → (b && (c && (leb (accessAddress x) a && ltb a (accessAddress x + 8))) ≡ true → ⊥)
-        → getD (cond b (cond c (placed 8 m (accessAddress x) (storedWord x)) m) m) a 0 ≡ getD m a 0
-    go false c h = refl
-    go true false h = refl
-    go true true h = getD-placed 8 m (accessAddress x) (storedWord x) a away
-      where
-        away : accessAddress x ≤ a → accessAddress x + 8 ≤ a
-        away q = ltb-false a (accessAddress x + 8) (falsely (ltb a (accessAddress x + 8)) (λ e. h (cc (e, le-leb (accessAddress x) a q))))
-          where
-            falsely : (b : Bool) → (b ≡ true → ⊥) → b ≡ false
-            falsely true k = absurd (k refl)
-            falsely false k = refl
+    go : (b : Bool) → (b && (inside m (accessAddress x) && (leb (accessAddress x) a && ltb a (accessAddress x + 8))) ≡ true → ⊥)
+        → getD (cond b (store m (accessAddress x) (storedWord x)) m .bytes) a 0 ≡ getD (m .bytes) a 0
+    go false h = refl
+    go true h = byte-stored m (accessAddress x) (storedWord x) a h
 
 -- TWO MEMORIES that agree on an instruction's bytes
 record Same (m m′ : Memory) (a : ℕ) : Type 0 where
-  long : length m ≡ length m′
-  at : (x : ℕ) → a ≤ x → x < a + sizeAt m′ a → x < length m′ → getD m x 0 ≡ getD m′ x 0
+  long : size m ≡ size m′
+  at : (x : ℕ) → a ≤ x → x < a + sizeAt m′ a → x < size m′ → getD (m .bytes) x 0 ≡ getD (m′ .bytes) x 0
 
 pub both : (a b : Bool) → a && b ≡ true → (a ≡ true) × (b ≡ true)
 both true b h = (refl, h)
@@ -70,30 +53,30 @@ both false b h = (h, cc)
 -- by the length rule no instruction is without a byte
 pub size-positive : (m : Memory) (a : ℕ) → 0 < sizeAt m a
 unfolding sizeAt parts
-size-positive m a = omega (arith, length-rule (getD m a 0 / 16))
+size-positive m a = omega (arith, length-rule (getD (m .bytes) a 0 / 16))
 
 same-size : (m m′ : Memory) (a : ℕ) → Same m m′ a → sizeAt m a ≡ sizeAt m′ a
 unfolding sizeAt
-same-size m m′ a h = ap (λ (b : ℕ). rowOf (b / 16) .size) (go (decLt a (length m′)))
+same-size m m′ a h = ap (λ (b : ℕ). rowOf (b / 16) .size) (go (decLt a (size m′)))
   where
-    go : Dec (a < length m′) → getD m a 0 ≡ getD m′ a 0
+    go : Dec (a < size m′) → getD (m .bytes) a 0 ≡ getD (m′ .bytes) a 0
     go (yes q) = h .at a (omega arith) (omega (arith, size-positive m′ a)) q
-    go (no q) = List·getD-eq-default m 0 (omega (arith, h .long)) ∙ sym (List·getD-eq-default m′ 0 (omega arith))
+    go (no q) = List·getD-eq-default (m .bytes) 0 (omega (arith, h .long)) ∙ sym (List·getD-eq-default (m′ .bytes) 0 (omega arith))
 
 same-bytes : (m m′ : Memory) (a : ℕ) → Same m m′ a → ownBytes m a ≡ ownBytes m′ a
 unfolding ownBytes
-same-bytes m m′ a h = ap (λ (n : ℕ). take n (drop a m)) (same-size m m′ a h) ∙ ext-getD 0 _ _ lengths each
+same-bytes m m′ a h = ap (λ (n : ℕ). take n (drop a (m .bytes))) (same-size m m′ a h) ∙ ext-getD 0 _ _ lengths each
   where
-    lengths : length (take (sizeAt m′ a) (drop a m)) ≡ length (take (sizeAt m′ a) (drop a m′))
+    lengths : length (take (sizeAt m′ a) (drop a (m .bytes))) ≡ length (take (sizeAt m′ a) (drop a (m′ .bytes)))
     lengths = simp (length-take, length-drop) (ap (λ (n : ℕ). min (sizeAt m′ a) (n - a)) (h .long))
 
-    each : (i : ℕ) → i < length (take (sizeAt m′ a) (drop a m)) → getD (take (sizeAt m′ a) (drop a m)) i 0 ≡ getD (take (sizeAt m′ a) (drop a m′)) i 0
+    each : (i : ℕ) → i < length (take (sizeAt m′ a) (drop a (m .bytes))) → getD (take (sizeAt m′ a) (drop a (m .bytes))) i 0 ≡ getD (take (sizeAt m′ a) (drop a (m′ .bytes))) i 0
     each i q =
-        let z : i < min (sizeAt m′ a) (length m - a) = simp (length-take, length-drop) at q in
+        let z : i < min (sizeAt m′ a) (size m - a) = simp (length-take, length-drop) at q in
         let e = h .long in
-        getD-take (sizeAt m′ a) (drop a m) i 0 (omega arith)
-        ∙ (getD-drop a m i 0 ∙ (h .at (a + i) (omega arith) (omega arith) (omega arith)
-        ∙ sym (getD-take (sizeAt m′ a) (drop a m′) i 0 (omega arith) ∙ getD-drop a m′ i 0)))
+        getD-take (sizeAt m′ a) (drop a (m .bytes)) i 0 (omega arith)
+        ∙ (getD-drop a (m .bytes) i 0 ∙ (h .at (a + i) (omega arith) (omega arith) (omega arith)
+        ∙ sym (getD-take (sizeAt m′ a) (drop a (m′ .bytes)) i 0 (omega arith) ∙ getD-drop a (m′ .bytes) i 0)))
 
 same-fetch : (m m′ : Memory) (a : ℕ) → Same m m′ a → fetch m a ≡ fetch m′ a
 unfolding fetch
@@ -101,18 +84,18 @@ same-fetch m m′ a h = ap (parsed a) (same-bytes m m′ a h)
 
 -- one instruction further back, which writes none of the bytes
 same-back : (s : Plain) (m′ : Memory) (a : ℕ) → isStopped s ≡ false → Same (step s .memory) m′ a
-    → ((x : ℕ) → writesByte s x ≡ true → a ≤ x → x < a + sizeAt m′ a → x < length m′ → ⊥) → Same (s .memory) m′ a
+    → ((x : ℕ) → writesByte s x ≡ true → a ≤ x → x < a + sizeAt m′ a → x < size m′ → ⊥) → Same (s .memory) m′ a
 unfolding writesByte executed execute decoded decode
 same-back s m′ a r h k =
     record {
-      long = sym (ap length (step-memory s r) ∙ length-newMemory (executed s) (s .memory)) ∙ h .long;
+      long = sym (ap size (step-memory s r) ∙ size-newMemory (executed s) (s .memory)) ∙ h .long;
       at = λ x lo hi q. sym (unwritten x (λ e. k x e lo hi q)) ∙ h .at x lo hi q;
     }
   where
-    unwritten : (x : ℕ) → (writesByte s x ≡ true → ⊥) → getD (step s .memory) x 0 ≡ getD (s .memory) x 0
+    unwritten : (x : ℕ) → (writesByte s x ≡ true → ⊥) → getD (step s .memory .bytes) x 0 ≡ getD (s .memory .bytes) x 0
     unwritten x f =
-        ap (λ (m : Memory). getD m x 0) (step-memory s r)
-        ∙ getD-newMemory (executed s) (s .memory) x f
+        ap (λ (m : Memory). getD (m .bytes) x 0) (step-memory s r)
+        ∙ byte-newMemory (executed s) (s .memory) x f
 
 pub runs-before : (s : Plain) (d j n : ℕ) → d + j ≡ n → isStopped (steps s n) ≡ false → isStopped (steps s j) ≡ false
 unfolding steps

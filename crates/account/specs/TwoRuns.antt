@@ -13,7 +13,7 @@ use lib.ListN.{length, getD, length-append, List·getD-append}
 use lib.Seq.{getD-append-add}
 use Rattle.account.specs.Names.{Machine, Pipeline}
 use Rattle.machine.specs.Types.{isBad}
-use Rattle.machine.specs.Memory.{Memory}
+use Rattle.machine.specs.Memory.{Memory, size}
 use Rattle.machine.specs.Plain.{Plain, plainOf, plainStart, isStopped, steps}
 use Rattle.clocked.specs.Prediction.{Core, coreOf}
 use Rattle.clocked.specs.Charges.{kindsOf, due, dueCycles}
@@ -128,27 +128,27 @@ plain-ran : (k : Machine) (m : Memory) (budget : ℕ) (log : List ℕ) → plain
     → (plainRun k m budget log ≡ plainDone (steps (plainOf k m) budget) log) × (budget ≤ length log)
 unfolding plainRun plainBy plainRefusal lowest logRefused
 plain-ran k m budget log h =
-    let n = plainRefusal (length m) (k .count) budget (length log ∷ []) in
+    let n = plainRefusal (size m) (k .count) budget (length log ∷ []) in
     let r = ran (λ (x : PlainAnswer). x .number) n (plainDone (steps (plainOf k m) budget) log) (plainAnswer n k m log) refl h in
-    let f = logs-fit (sizeRefused (length m)) (budgetRefused plainLimit (k .count) budget) (ltb (length log) budget || false) 0 (r .1) in
+    let f = logs-fit (sizeRefused (size m)) (budgetRefused plainLimit (k .count) budget) (ltb (length log) budget || false) 0 (r .1) in
     (r .0, ltb-false (length log) budget (neither (ltb (length log) budget) false f .0))
 
 pipe-ran : (k : Pipeline) (m : Memory) (budget : ℕ) (a y : List ℕ) → pipeRun k m budget a y .number ≡ 0
     → (pipeRun k m budget a y ≡ pipeDone (clocks (coreOf (k .settings)) (pipedOf k m) budget) a y) × (budget ≤ length a) × (budget ≤ length y)
 unfolding pipeRun pipeBy pipeRefusal lowest logRefused
 pipe-ran k m budget a y h =
-    let n = pipeRefusal k (length m) budget (length a ∷ length y ∷ []) in
+    let n = pipeRefusal k (size m) budget (length a ∷ length y ∷ []) in
     let r = ran (λ (x : PipeAnswer). x .number) n (pipeDone (clocks (coreOf (k .settings)) (pipedOf k m) budget) a y) (pipeAnswer n k m a y) refl h in
     let b = ltb (length y) budget || false in
-    let f = logs-fit (sizeRefused (length m)) (budgetRefused pipeLimit (k .cycles) budget) (ltb (length a) budget || b) (cond (recordRefused k) 5 0) (r .1) in
+    let f = logs-fit (sizeRefused (size m)) (budgetRefused pipeLimit (k .cycles) budget) (ltb (length a) budget || b) (cond (recordRefused k) 5 0) (r .1) in
     let e = neither (ltb (length a) budget) b f in
     (r .0, ltb-false (length a) budget (e .0), ltb-false (length y) budget (neither (ltb (length y) budget) false (e .1) .0))
 
 pub unlogged-ran : (k : Pipeline) (m : Memory) (budget : ℕ) → pipeRunUnlogged k m budget .number ≡ 0
-    → (pipeRunUnlogged k m budget ≡ pipeDone (clocks (coreOf (k .settings)) (pipedOf k m) budget) [] []) × (pipeRefusal k (length m) budget [] ≡ 0)
+    → (pipeRunUnlogged k m budget ≡ pipeDone (clocks (coreOf (k .settings)) (pipedOf k m) budget) [] []) × (pipeRefusal k (size m) budget [] ≡ 0)
 unfolding pipeRunUnlogged pipeBy
 unlogged-ran k m budget h =
-    let n = pipeRefusal k (length m) budget [] in
+    let n = pipeRefusal k (size m) budget [] in
     ran (λ (x : PipeAnswer). x .number) n (pipeDone (clocks (coreOf (k .settings)) (pipedOf k m) budget) [] []) (pipeAnswer n k m [] []) refl h
 
 -- "the limit is 262,145, which covers any 65,536 instructions"

@@ -8,7 +8,7 @@ use lib.ListN.{length, take, getD, set, length-set}
 use lib.Seq.{take-suc, take-suc-set, take-length, length-take-le}
 use borrow.Author.Tests.{lt-ltb}
 use Rattle.machine.specs.Words.{number, placed}
-use Rattle.machine.specs.Memory.{inside, load, store}
+use Rattle.machine.specs.Memory.{Memory, lent, inside, load, store}
 use Rattle.laws.specs.Memory.{length-placed}
 use Rattle.block.specs.Block.{wordsIn, withWords}
 
@@ -36,13 +36,15 @@ with-length [] b a = refl
 with-length (w ∷ ws) b a = with-length ws (placed 8 b a w) (a + 8) ∙ length-placed 8 b a w
 
 -- a word that is inside is loaded and stored as its bytes
-load-there : (b : List ℕ) (a v : ℕ) → a + 8 ≤ length b → v ≡ load b a → v ≡ number 8 b a
+load-there : (b : List ℕ) (a v : ℕ) → a + 8 ≤ length b → v ≡ load (lent b) a → v ≡ number 8 b a
 unfolding load inside
 load-there b a v h e = cc (lt-ltb (a + 7) (length b) (omega arith))
 
-store-there : (b b′ : List ℕ) (a v : ℕ) → a + 8 ≤ length b → b′ ≡ store b a v → b′ ≡ placed 8 b a v
+store-there : (b b′ : List ℕ) (a v : ℕ) → a + 8 ≤ length b → lent b′ ≡ store (lent b) a v → b′ ≡ placed 8 b a v
 unfolding store inside
-store-there b b′ a v h e = cc (lt-ltb (a + 7) (length b) (omega arith))
+store-there b b′ a v h e =
+    let there = lt-ltb (a + 7) (length b) (omega arith) in
+    ap (λ (m : Memory). m .bytes) (rw there at e)
 
 -- the first k words have been read
 pub record Reads (b words : List ℕ) (k : ℕ) : Type 0 where
@@ -54,7 +56,7 @@ pub reads-first : (b words : List ℕ) → length words ≡ 15 → Reads b words
 unfolding wordsIn
 reads-first b words h = record { so-far = refl; long = h; within = omega arith }
 
-pub reads-more : (b words : List ℕ) (k v : ℕ) → Reads b words k → k < 15 → length b ≡ 120 → v ≡ load b (8 * k) → Reads b (set words k v) (k + 1)
+pub reads-more : (b words : List ℕ) (k v : ℕ) → Reads b words k → k < 15 → length b ≡ 120 → v ≡ load (lent b) (8 * k) → Reads b (set words k v) (k + 1)
 reads-more b words k v h lt room got =
     let e = load-there b (8 * k) v (omega arith) got in
     let z : 0 + 8 * k ≡ 8 * k = omega arith in
@@ -87,7 +89,7 @@ unfolding withWords
 writes-first b₀ words = record { so-far = refl; within = omega arith }
 
 pub writes-more : (b₀ words b b′ : List ℕ) (k : ℕ) → Writes b₀ words b k → k < length words → 8 * length words ≤ length b₀
-    → b′ ≡ store b (8 * k) (getD words k 0) → Writes b₀ words b′ (k + 1)
+    → lent b′ ≡ store (lent b) (8 * k) (getD words k 0) → Writes b₀ words b′ (k + 1)
 writes-more b₀ words b b′ k h lt room put =
     let e = store-there b b′ (8 * k) (getD words k 0) (omega (arith, writes-length h)) put in
     let n = length-take-le k words (h .within) in

@@ -4,7 +4,7 @@ use mathlib.Core.Bool.{Bool, false, cond, _&&_, _||_}
 use mathlib.Core.List.{List, [], _∷_}
 use lib.Dec.{ltb, leb, eqb}
 use lib.ListN.{length}
-use Rattle.machine.specs.Memory.{Memory}
+use Rattle.machine.specs.Memory.{Memory, size}
 use Rattle.machine.specs.Table.{rowOf, is, cmov, operation, jump}
 use Rattle.machine.specs.Runs.{laid, sizeRefused, budgetRefused, logRefused, lowest}
 use Rattle.clocked.specs.Record.{Pipeline, Instruction, StageD, bubbleD, inD, StageE, bubbleE, inE, StageM, bubbleM, inM, StageW, bubbleW, inW}
@@ -75,7 +75,7 @@ pipeDone p a y = pipeAnswer 0 (p .pipeline) (p .memory) (laid (p .addressLog) a)
 -- the clocks are those of the core that the record's own settings choose
 unfoldable pub pipeBy : List ℕ → Pipeline → Memory → ℕ → List ℕ → List ℕ → PipeAnswer
 pipeBy logs k m budget a y =
-    let n = pipeRefusal k (length m) budget logs in
+    let n = pipeRefusal k (size m) budget logs in
     cond (eqb n 0) (pipeDone (clocks (coreOf (k .settings)) (pipedOf k m) budget) a y) (pipeAnswer n k m a y)
 
 unfoldable pub pipeRun : Pipeline → Memory → ℕ → List ℕ → List ℕ → PipeAnswer

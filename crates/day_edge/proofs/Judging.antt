@@ -5,7 +5,7 @@ use Prim.Native.Nat.{ℕ}
 use borrow.Author.Tests.{eq-eqb, ne-eqb}
 use lib.Dec.{T}
 use lib.ListN.{length}
-use Rattle.machine.specs.Memory.{Memory}
+use Rattle.machine.specs.Memory.{Memory, lent}
 use Rattle.peaks.specs.declared.Found.the-variants.{NoGoodSample as noGoodSample, GoodSamples as goodSamples}
 use Rattle.peaks.specs.declared.Raw.{Raw}
 use Rattle.peaks.specs.declared.Day.{Day}
@@ -32,7 +32,7 @@ module _ (d : Day) (raw : Raw) (e : d .found ≡ goodSamples raw) where
 pub day-number : (m : Memory) (table n filed : ℕ) (a : Answer) → a ≡ judged m table n filed → (d : Day) → a ≡ judgedAs d → T (meanIsNumber (d .found))
 day-number m table n filed a h d e = judged-number m table n filed d (sym h ∙ e)
 
-module _ (m : Memory) (result : List ℕ) (table n filed : ℕ) (a : Answer) (h : a ≡ judged m table n filed) where
+module _ (m result : List ℕ) (table n filed : ℕ) (a : Answer) (h : a ≡ judged (lent m) table n filed) where
   pub day-refused : (k : ℕ) → a ≡ refused k → dayAt k result ≡ dayAnswer m result table n filed
   unfolding dayAnswer answered
   day-refused k e = rw (← h, e)

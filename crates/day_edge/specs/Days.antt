@@ -4,7 +4,7 @@ use mathlib.Core.Bool.{cond}
 use mathlib.Core.List.{List, [], _∷_}
 use lib.Dec.{eqb}
 use lib.ListN.{length}
-use Rattle.machine.specs.Memory.{Memory}
+use Rattle.machine.specs.Memory.{lent}
 use Rattle.peaks.specs.declared.Found.{Found}
 use Rattle.peaks.specs.declared.Found.the-variants.{NoGoodSample as noGoodSample, GoodSamples as goodSamples}
 use Rattle.peaks.specs.declared.Day.{Day}
@@ -36,5 +36,5 @@ unfoldable pub answered : Answer → List ℕ → DayAt
 answered (refused n) result = dayAt n result
 answered (judgedAs d) result = cond (eqb (length result) 56) (dayAt 0 (withWords (dayWords d) result 0)) (dayAt 4 result)
 
-unfoldable pub dayAnswer : Memory → List ℕ → (table n filed : ℕ) → DayAt
-dayAnswer m result table n filed = answered (judged m table n filed) result
+unfoldable pub dayAnswer : List ℕ → List ℕ → (table n filed : ℕ) → DayAt
+dayAnswer memory result table n filed = answered (judged (lent memory) table n filed) result

@@ -9,7 +9,7 @@ use lib.ListN.{length, take, drop, replicate, length-drop, drop-of-length-le}
 use lib.Seq.{take-length}
 use borrow.Rule.Slice.PartMut.{midOf, putMid, post-is}
 use Rattle.clocked.specs.declared.Pipeline.{Pipeline}
-use Rattle.machine.specs.Memory.{Memory}
+use Rattle.machine.specs.Memory.{Memory, lent}
 use Rattle.clocked.specs.Prediction.{asIn01}
 use Rattle.clocked.specs.Pipeline.{pipeStart}
 use Rattle.clocked.specs.PipeRuns.{PipeAnswer, pipeAnswer, pipeRunUnlogged}
@@ -92,10 +92,10 @@ judged-numbered (refused k) m table n filed h = tt
 judged-numbered (judgedAs d) m table n filed h = judged-number m table n filed d (sym h)
 
 -- THE REPLAY
-pub replayed : (image image′ : Memory) (n : ℕ) (fresh p : Pipeline) → fresh ≡ pipeStart asIn01 (replicate 15 0) (record { zf = true; sf = false; of = false }) 0
-    → pipeAnswer n p image′ [] [] ≡ pipeRunUnlogged fresh image 4000 → image′ ≡ imageRun image .memory
+pub replayed : (image image′ : List ℕ) (n : ℕ) (fresh p : Pipeline) → fresh ≡ pipeStart asIn01 (replicate 15 0) (record { zf = true; sf = false; of = false }) 0
+    → pipeAnswer n p (lent image′) [] [] ≡ pipeRunUnlogged fresh (lent image) 4000 → lent image′ ≡ imageRun image .memory
 unfolding imageRun
-replayed image image′ n fresh p e f = ap (λ (o : PipeAnswer). o .memory) (f ∙ ap (λ (k : Pipeline). pipeRunUnlogged k image 4000) e)
+replayed image image′ n fresh p e f = ap (λ (o : PipeAnswer). o .memory) (f ∙ ap (λ (k : Pipeline). pipeRunUnlogged k (lent image) 4000) e)
 
 -- THE REQUEST
 module _ (q : Request) (image out : List ℕ) (i : Bool) (h : i ≡ imageRefused (length image)) {b : List ℕ} {r : ℕ} where
@@ -104,7 +104,7 @@ module _ (q : Request) (image out : List ℕ) (i : Bool) (h : i ≡ imageRefused
   unfolding requested requestText imageLeft
   request-refused t e = rw (sym h ∙ t) (ap (λ (x : ℕ × List ℕ). (x .0, x .1, image)) e)
 
-  pub request-done : (image′ : Memory) (a : Answer) → i ≡ false → image′ ≡ imageRun image .memory → a ≡ judged image′ (q .table) (q .length) (q .filed)
+  pub request-done : (image′ : List ℕ) (a : Answer) → i ≡ false → lent image′ ≡ imageRun image .memory → a ≡ judged (lent image′) (q .table) (q .length) (q .filed)
       → _≡_ {A = ℕ × List ℕ} (r, b) (written (answerLines a) out) → _≡_ {A = ℕ × List ℕ × List ℕ} (r, b, image′) (requested q image out)
   unfolding requested requestText imageLeft dayAnswer
   request-done image′ a t m j e = rw (sym h ∙ t, ← m, ← j) (ap (λ (x : ℕ × List ℕ). (x .0, x .1, image′)) e)

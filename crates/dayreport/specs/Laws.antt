@@ -7,7 +7,6 @@ use mathlib.Core.List.{List, [], _∷_, _++_, append-assoc}
 use mathlib.Core.Path.{_≡_, refl, ap}
 use lib.Dec.{eqb, ltb}
 use lib.ListN.{length, length-append}
-use Rattle.machine.specs.Memory.{Memory}
 use Rattle.machine.specs.Runs.{sizeRefused}
 use Rattle.laws.specs.Tests.{neither}
 use Rattle.report.specs.Report.{imageRun}
@@ -22,7 +21,7 @@ use Rattle.dayreport.specs.Line.{thirdOf, secondOf, firstOf, firstLine}
 use Rattle.dayreport.specs.Program.{imageRefused, writtenFor, answeredInput}
 
 -- THE RUN INSIDE: what is let in is run, and not refused
-pub never-refused : (image : Memory) → imageRefused (length image) ≡ false → imageRun image .number ≡ 0
+pub never-refused : (image : List ℕ) → imageRefused (length image) ≡ false → imageRun image .number ≡ 0
 unfolding imageRefused sizeRefused
 never-refused image h =
     let p = neither (eqb (length image) 0) (ltb 4096 (length image)) h in

@@ -4,7 +4,6 @@ use mathlib.Core.Bool.{Bool, true, cond, _||_}
 use mathlib.Core.List.{List, _++_}
 use lib.Dec.{eqb, ltb}
 use lib.ListN.{length, take, drop}
-use Rattle.machine.specs.Memory.{Memory}
 use Rattle.peaks.specs.declared.Answer.{Answer}
 use Rattle.peaks.specs.declared.Answer.the-variants.{Refused as refused, Judged as judgedAs}
 use Rattle.peaks.specs.Day.{judged}
@@ -27,19 +26,19 @@ unfoldable pub imageRefused : ℕ → Bool
 imageRefused size = eqb size 0 || ltb 4096 size
 
 -- THE DAY of the final memory of the pipelined run
-unfoldable pub dayAnswer : Request → Memory → Answer
+unfoldable pub dayAnswer : Request → List ℕ → Answer
 dayAnswer q image = judged (imageRun image .memory) (q .table) (q .length) (q .filed)
 
 -- the bytes written for a request and the image behind it
-unfoldable pub requestText : Request → Memory → List ℕ
+unfoldable pub requestText : Request → List ℕ → List ℕ
 requestText q image = cond (imageRefused (length image)) (numberLine "refused" 5) (answerLines (dayAnswer q image))
 
 -- what the image's bytes are afterwards
-unfoldable pub imageLeft : Memory → Memory
-imageLeft image = cond (imageRefused (length image)) image (imageRun image .memory)
+unfoldable pub imageLeft : List ℕ → List ℕ
+imageLeft image = cond (imageRefused (length image)) image (imageRun image .memory .bytes)
 
 -- how many bytes are written, the buffer that they stand in, and the image
-unfoldable pub requested : Request → Memory → List ℕ → ℕ × List ℕ × Memory
+unfoldable pub requested : Request → List ℕ → List ℕ → ℕ × List ℕ × List ℕ
 requested q image out = (length (requestText q image), requestText q image ++ drop (length (requestText q image)) out, imageLeft image)
 
 -- "4 for a bad first line"; the image begins behind a good one

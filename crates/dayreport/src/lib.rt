@@ -15,6 +15,7 @@ ghost use mathlib.Core.List.{List};
 ghost use Prim.Native.Nat.{ℕ, _≤_};
 ghost use lib.Dec.{T};
 ghost use lib.ListN.{length};
+ghost use Rattle.machine.specs.Memory.{lent};
 ghost use Rattle.peaks.specs.Division.{meanIsNumber};
 ghost use Rattle.report_lines.specs.Lines.{numberLine};
 ghost use Rattle.report.specs.Report.{imageRun};
@@ -41,7 +42,7 @@ fn write_answer(answer: Answer, out: &mut [u8; 144]) -> usize
 
 // "replays it as the first program does": registers 0, codes ZF=1, start 0, budget 4,000 cycles.
 fn replay(image: &mut [u8])
-    ensures { λ _. ⌜ now (image .exit) ≡ imageRun (now (image .entry)) .memory ⌝ }
+    ensures { λ _. ⌜ lent (now (image .exit)) ≡ imageRun (now (image .entry)) .memory ⌝ }
 {
     let codes = Codes {
         zf: true,

@@ -6,6 +6,7 @@ use borrow.Author.Tests.{ne-eqb}
 use lib.ListN.{length}
 use Rattle.machine.specs.declared.Codes.{Codes}
 use Rattle.clocked.specs.declared.Pipeline.{Pipeline}
+use Rattle.machine.specs.Memory.{lent}
 use Rattle.clocked.specs.Prediction.{asIn01}
 use Rattle.clocked.specs.Pipeline.{pipeStart}
 use Rattle.clocked.specs.PipeRuns.{pipeAnswer, pipeRunUnlogged}
@@ -21,10 +22,11 @@ module _ (memory registers result : List ℕ) (start codes budget n : ℕ)
 
   pub replays : (words : List ℕ) (c : Codes) (fresh end : Pipeline) (number : ℕ) (memory′ registers′ result′ : List ℕ) → n ≡ 0 → words ≡ wordsIn 15 registers 0
       → c ≡ codesFrom codes
-      → fresh ≡ pipeStart asIn01 words c start → pipeAnswer number end memory′ [] [] ≡ pipeRunUnlogged fresh memory budget
+      → fresh ≡ pipeStart asIn01 words c start → pipeAnswer number end (lent memory′) [] [] ≡ pipeRunUnlogged fresh (lent memory) budget
       → registers′ ≡ withWords (end .registers) registers 0
       → result′ ≡ withWords (resultWords end) result 0 → edge 0 memory′ registers′ result′ ≡ replayed memory registers result start codes budget
   unfolding replayed edgeDone edgeRun
   replays words c fresh end number memory′ registers′ result′ z e f g r p q =
-      let run : pipeAnswer number end memory′ [] [] ≡ pipeRunUnlogged (pipeStart asIn01 (wordsIn 15 registers 0) (codesFrom codes) start) memory budget = cc in
+      let run : pipeAnswer number end (lent memory′) [] []
+      ≡ pipeRunUnlogged (pipeStart asIn01 (wordsIn 15 registers 0) (codesFrom codes) start) (lent memory) budget = cc in
       rw (sym h ∙ z, ← run) (cc)

@@ -1,25 +1,26 @@
 -- Fetch: one law for each of the checks, in their order. Assumes nothing.
 use mathlib.Core.Path.{_≡_, refl, ap, _∙_}
 use mathlib.Core.Bool.{Bool, true, false, cond, not}
+use mathlib.Core.List.{List}
 use Prim.Native.Nat.{ℕ, _+_, _-_, _/_, _%_, _≤_, _<_}
 use native.Mathlib.Omega.{arith}
 use borrow.Author.Tests.{eq-eqb, ne-eqb, lt-ltb, le-ltb, le-leb, lt-leb, ltb-true, ltb-false, leb-true, leb-false, not-true, not-false}
 use lib.Dec.{T, eqb, ltb, leb}
-use lib.ListN.{length, getD}
+use lib.ListN.{length}
 use Rattle.machine.specs.declared.Status.the-variants.{Aok as aok, Hlt as hlt, Adr as adr, Ins as ins}
 use Rattle.machine.specs.declared.Instruction.{Instruction}
 use Rattle.machine.specs.Words.{sum, number}
-use Rattle.machine.specs.Memory.{Memory, inside, load}
+use Rattle.machine.specs.Memory.{Memory, lent, size, inside, load}
 use Rattle.machine.specs.Table.{rowOf, RegisterByte, noByte, bothNamed, onlyB, onlyA}
 use Rattle.machine.specs.Fetch.{stopping, halvesFit, half, checked, fetch}
 use Rattle.machine.specs.Runs.{sizeRefused, lowest, fetchAnswer}
 use Rattle.published.specs.Lengths.{hasRegisterByte, length-rule, two}
-use Rattle.published.specs.Fetching.{aokAt, fetch-is}
+use Rattle.published.specs.Fetching.{M₁, M₈, aokAt, fetch-is}
 use Rattle.lookup.specs.Numbers.{byteNumber}
 use Rattle.fetching.specs.Halves.{halvesFitBy}
 
 abbrev codeAt : Memory → ℕ → ℕ
-codeAt m a = getD m a 0 / 16
+codeAt m a = M₁ m a / 16
 
 -- the halves of the byte as the code takes it: F:F where there is none
 high : (y : RegisterByte) (x : ℕ) → cond (eqb (byteNumber y) 0) 255 x / 16 ≡ half y (x / 16)
@@ -59,46 +60,46 @@ pub room : (z l : ℕ) → not (leb z l) ≡ false → z ≤ l
 room z l h = leb-true z l (not-false (leb z l) h)
 
 -- THE WAYS OUT
-pub outside : (m : Memory) (a : ℕ) (r : Instruction) → length m ≤ a → r ≡ stopping a adr → r ≡ fetch m a
+pub outside : (m : Memory) (a : ℕ) (r : Instruction) → size m ≤ a → r ≡ stopping a adr → r ≡ fetch m a
 unfolding checked aokAt
-outside m a r h e = cc (fetch-is m a, le-leb (length m) a h)
+outside m a r h e = cc (fetch-is m a, le-leb (size m) a h)
 
-module _ (m : Memory) (a f : ℕ) (h : a < length m) (ef : f ≡ rowOf (codeAt m a) .functions) where
-  pub no-function : (r : Instruction) → not (ltb (getD m a 0 % 16) f) ≡ true → r ≡ stopping a ins → r ≡ fetch m a
+module _ (m : Memory) (a f : ℕ) (h : a < size m) (ef : f ≡ rowOf (codeAt m a) .functions) where
+  pub no-function : (r : Instruction) → not (ltb (M₁ m a % 16) f) ≡ true → r ≡ stopping a ins → r ≡ fetch m a
   unfolding checked aokAt
-  no-function r p e = cc (fetch-is m a, lt-leb (length m) a h, le-leb f (getD m a 0 % 16) (ltb-false (getD m a 0 % 16) f (not-true _ p)))
+  no-function r p e = cc (fetch-is m a, lt-leb (size m) a h, le-leb f (M₁ m a % 16) (ltb-false (M₁ m a % 16) f (not-true _ p)))
 
-  module _ (z : ℕ) (p : not (ltb (getD m a 0 % 16) f) ≡ false) (ez : z ≡ rowOf (codeAt m a) .size) where
-    in-table : leb f (getD m a 0 % 16) ≡ false
-    in-table = lt-leb f (getD m a 0 % 16) (ltb-true (getD m a 0 % 16) f (not-false _ p))
+  module _ (z : ℕ) (p : not (ltb (M₁ m a % 16) f) ≡ false) (ez : z ≡ rowOf (codeAt m a) .size) where
+    in-table : leb f (M₁ m a % 16) ≡ false
+    in-table = lt-leb f (M₁ m a % 16) (ltb-true (M₁ m a % 16) f (not-false _ p))
 
-    pub cut-short : (r : Instruction) → not (leb z (length m - a)) ≡ true → r ≡ stopping a adr → r ≡ fetch m a
+    pub cut-short : (r : Instruction) → not (leb z (size m - a)) ≡ true → r ≡ stopping a adr → r ≡ fetch m a
     unfolding checked aokAt
     cut-short r q e =
-        let short = leb-false z (length m - a) (not-true _ q) in
-        cc (fetch-is m a, lt-leb (length m) a h, in-table, lt-ltb (length m) (a + z) (omega arith))
+        let short = leb-false z (size m - a) (not-true _ q) in
+        cc (fetch-is m a, lt-leb (size m) a h, in-table, lt-ltb (size m) (a + z) (omega arith))
 
-    module _ (y b : ℕ) (t : Bool) (q : not (leb z (length m - a)) ≡ false) (ey : y ≡ byteNumber (rowOf (codeAt m a) .byte))
-        (eb : b ≡ cond (eqb y 0) 255 (getD m (a + 1) 0)) (et : t ≡ halvesFitBy y (b / 16) (b % 16)) where
+    module _ (y b : ℕ) (t : Bool) (q : not (leb z (size m - a)) ≡ false) (ey : y ≡ byteNumber (rowOf (codeAt m a) .byte))
+        (eb : b ≡ cond (eqb y 0) 255 (M₁ m (a + 1))) (et : t ≡ halvesFitBy y (b / 16) (b % 16)) where
       high-is : b / 16 ≡ aokAt m a (codeAt m a) .ra
       unfolding aokAt
-      high-is = cc (high (rowOf (codeAt m a) .byte) (getD m (a + 1) 0))
+      high-is = cc (high (rowOf (codeAt m a) .byte) (M₁ m (a + 1)))
 
       low-is : b % 16 ≡ aokAt m a (codeAt m a) .rb
       unfolding aokAt
-      low-is = cc (low (rowOf (codeAt m a) .byte) (getD m (a + 1) 0))
+      low-is = cc (low (rowOf (codeAt m a) .byte) (M₁ m (a + 1)))
 
       fit : not (halvesFit (rowOf (codeAt m a) .byte) (aokAt m a (codeAt m a) .ra) (aokAt m a (codeAt m a) .rb)) ≡ not t
       fit = cc (fits-by (rowOf (codeAt m a) .byte) (b / 16) (b % 16), high-is, low-is)
 
-      long : ltb (length m) (a + rowOf (codeAt m a) .size) ≡ false
-      long = le-ltb (length m) (a + rowOf (codeAt m a) .size) (omega (arith, room z (length m - a) q))
+      long : ltb (size m) (a + rowOf (codeAt m a) .size) ≡ false
+      long = le-ltb (size m) (a + rowOf (codeAt m a) .size) (omega (arith, room z (size m - a) q))
 
       -- the checks that are passed
       through : fetch m a ≡ checked false false false (not t) (eqb (codeAt m a) 0) (aokAt m a (codeAt m a))
       unfolding aokAt
       through =
-          fetch-is m a ∙ rw (lt-leb (length m) a h, ← ef, in-table, long)
+          fetch-is m a ∙ rw (lt-leb (size m) a h, ← ef, in-table, long)
           (ap (λ (x : Bool). checked false false false x (eqb (codeAt m a) 0) (aokAt m a (codeAt m a))) fit)
 
       pub misnamed : (r : Instruction) → not t ≡ true → r ≡ stopping a ins → r ≡ fetch m a
@@ -109,27 +110,27 @@ module _ (m : Memory) (a f : ℕ) (h : a < length m) (ef : f ≡ rowOf (codeAt m
       unfolding checked aokAt
       halts r k o e = cc (through, eq-eqb (codeAt m a) 0 o)
 
-      pub fetches : (c n : ℕ) → not t ≡ false → (codeAt m a ≡ 0 → ⊥) → c ≡ cond (ltb 8 z) (number 8 m (a + (z - 8))) 0 → n ≡ sum a z
-          → record { address = a; status = aok; code = codeAt m a; function = getD m a 0 % 16; ra = b / 16; rb = b % 16; constant = c; next = n } ≡ fetch m a
+      pub fetches : (c n : ℕ) → not t ≡ false → (codeAt m a ≡ 0 → ⊥) → c ≡ cond (ltb 8 z) (M₈ m (a + (z - 8))) 0 → n ≡ sum a z
+          → record { address = a; status = aok; code = codeAt m a; function = M₁ m a % 16; ra = b / 16; rb = b % 16; constant = c; next = n } ≡ fetch m a
       unfolding checked aokAt
       fetches c n k o ec en = cc (through, ne-eqb (codeAt m a) 0 o, high-is, low-is)
 
 -- THE CONSTANT, loaded from inside an instruction that is whole
-pub constant-there : (m : Memory) (at size c : ℕ) → at + size ≤ length m → 8 < size → c ≡ load m (at + (size - 8))
-    → c ≡ cond (ltb 8 size) (number 8 m (at + (size - 8))) 0
+pub constant-there : (b : List ℕ) (at n c : ℕ) → at + n ≤ length b → 8 < n → c ≡ load (lent b) (at + (n - 8))
+    → c ≡ cond (ltb 8 n) (number 8 b (at + (n - 8))) 0
 unfolding load inside
-constant-there m at size c fits long e = cc (lt-ltb 8 size long, lt-ltb (at + (size - 8) + 7) (length m) (omega arith))
+constant-there b at n c fits long e = cc (lt-ltb 8 n long, lt-ltb (at + (n - 8) + 7) (length b) (omega arith))
 
-pub no-constant : (m : Memory) (at size : ℕ) → size ≤ 8 → 0 ≡ cond (ltb 8 size) (number 8 m (at + (size - 8))) 0
-no-constant m at size short = cc (le-ltb 8 size short)
+pub no-constant : (b : List ℕ) (at n : ℕ) → n ≤ 8 → 0 ≡ cond (ltb 8 n) (number 8 b (at + (n - 8))) 0
+no-constant b at n short = cc (le-ltb 8 n short)
 
 -- THE OPEN ENTRY
-pub refused : (m : Memory) (a : ℕ) (t : Bool) (i : Instruction) → t ≡ sizeRefused (length m) → t ≡ true → i ≡ stopping a adr
+pub refused : (m : Memory) (a : ℕ) (t : Bool) (i : Instruction) → t ≡ sizeRefused (size m) → t ≡ true → i ≡ stopping a adr
     → record { number = 1; instruction = i } ≡ fetchAnswer m a
 unfolding fetchAnswer lowest
 refused m a t i e h s = cc
 
-pub answered : (m : Memory) (a : ℕ) (t : Bool) (i : Instruction) → t ≡ sizeRefused (length m) → t ≡ false → i ≡ fetch m a
+pub answered : (m : Memory) (a : ℕ) (t : Bool) (i : Instruction) → t ≡ sizeRefused (size m) → t ≡ false → i ≡ fetch m a
     → record { number = 0; instruction = i } ≡ fetchAnswer m a
 unfolding fetchAnswer lowest
 answered m a t i e h s = cc

@@ -18,6 +18,7 @@ ghost use mathlib.Core.Bool.{cond};
 ghost use Prim.Native.Nat.{_+_, _-_, _≤_, _<_};
 ghost use lib.Dec.{eqb, ltb};
 ghost use lib.ListN.{length, getD};
+ghost use Rattle.machine.specs.Memory.{lent};
 ghost use Rattle.machine.specs.Words.{number};
 ghost use Rattle.machine.specs.Fetch.{fetch as fetchOf, stopping as stoppingOf};
 ghost use Rattle.machine.specs.Runs.{fetchAnswer};
@@ -79,7 +80,7 @@ fn constant_of(memory: &[u8], at: usize, size: u8) -> u64
 
 // For the engines, which have tested the size of memory.
 pub fn instruction_at(memory: &[u8], address: u64) -> Instruction
-    ensures { λ r. ⌜ r ≡ fetchOf (now (memory .entry)) address ⌝ }
+    ensures { λ r. ⌜ r ≡ fetchOf (lent (now (memory .entry))) address ⌝ }
 {
     let n = memory.len() as u64;
     if n <= address {
@@ -122,7 +123,7 @@ pub fn instruction_at(memory: &[u8], address: u64) -> Instruction
 
 // The open entry: refusal 1, with the nop that a fetch outside memory gives, or 0 and the instruction.
 pub fn fetch(memory: &[u8], address: u64) -> FetchAnswer
-    ensures { λ r. ⌜ r ≡ fetchAnswer (now (memory .entry)) address ⌝ }
+    ensures { λ r. ⌜ r ≡ fetchAnswer (lent (now (memory .entry))) address ⌝ }
 {
     if size_refused(memory.len()) {
         return FetchAnswer {

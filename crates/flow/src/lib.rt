@@ -31,6 +31,7 @@ use stage::working::memory_after;
 use stage::working::registers_after;
 ghost use mathlib.Core.Path.{_≡_};
 ghost use lib.ListN.{length};
+ghost use Rattle.machine.specs.Memory.{lent};
 ghost use Rattle.machine.specs.Fetch.{fetch as fetchOf};
 ghost use Rattle.clocked.specs.Prediction.{coreOf};
 ghost use Rattle.clocked.specs.Pipeline.{memoryAfter, registersAfter, returnedTo};
@@ -86,7 +87,7 @@ fn signals_now(
 
 // What is fetched; wrong says that the jump in M was guessed wrongly.
 fn fetch_now(wrong: bool, m: StageM, w: StageW, predicted: u64, memory: &[u8]) -> Instruction
-    ensures { λ r. ⌜ r ≡ fetchOf (now (memory .entry)) (mendedBy wrong m (returnedTo w predicted)) ⌝ }
+    ensures { λ r. ⌜ r ≡ fetchOf (lent (now (memory .entry))) (mendedBy wrong m (returnedTo w predicted)) ⌝ }
 {
     instruction_at(memory, fetch_address(wrong, m, w, predicted))
 }
@@ -120,9 +121,9 @@ pub fn advance(
     memory: &mut [u8],
 ) -> Flow
     requires { ⌜ (length (now registers) ≡ 15) × (flow .ahead ≡ aheadOf (coreOf settings) (flow .m) (flow .w)) ⌝ }
-    ensures { λ r. ⌜ (r ≡ flowAfter (coreOf settings) flow (now (registers .entry)) (now (memory .entry)))
+    ensures { λ r. ⌜ (r ≡ flowAfter (coreOf settings) flow (now (registers .entry)) (lent (now (memory .entry))))
         × (now (registers .exit) ≡ registersAfter (flow .w) (now (registers .entry)))
-        × (now (memory .exit) ≡ memoryAfter (flow .m) (now (memory .entry))) ⌝ }
+        × (lent (now (memory .exit)) ≡ memoryAfter (flow .m) (lent (now (memory .entry)))) ⌝ }
 {
     let d = flow.d;
     let e = flow.e;

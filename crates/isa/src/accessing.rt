@@ -10,7 +10,7 @@ use machine::Executed;
 use machine::Status;
 ghost use mathlib.Core.Path.{_≡_};
 ghost use mathlib.Core.Bool.{cond};
-ghost use Rattle.machine.specs.Memory.{load as loadOf};
+ghost use Rattle.machine.specs.Memory.{lent, load as loadOf};
 ghost use Rattle.machine.specs.Stages.{loads, accessAddress, storedWord, accessStatus, access as accessOf, newMemory};
 ghost use Rattle.isa.specs.Decisions.{accessKind};
 
@@ -49,7 +49,7 @@ fn stored_word(kind: u8, x: Executed) -> u64
 // An access outside memory is ADR, whatever the status was.
 fn access_status(kind: u8, x: Executed, memory: &[u8]) -> Status
     requires { ⌜ kind ≡ accessKind x ⌝ }
-    ensures { λ r. ⌜ r ≡ accessStatus x (now (memory .entry)) ⌝ }
+    ensures { λ r. ⌜ r ≡ accessStatus x (lent (now (memory .entry))) ⌝ }
 {
     let i = x.instruction;
     if (kind != NO_ACCESS) & !word::inside(memory, access_address(kind, x)) {
@@ -61,7 +61,7 @@ fn access_status(kind: u8, x: Executed, memory: &[u8]) -> Status
 // The word loaded, 0 where none is.
 fn loaded_word(kind: u8, x: Executed, memory: &[u8]) -> u64
     requires { ⌜ kind ≡ accessKind x ⌝ }
-    ensures { λ r. ⌜ r ≡ cond (loads (x .instruction)) (loadOf (now (memory .entry)) (accessAddress x)) 0 ⌝ }
+    ensures { λ r. ⌜ r ≡ cond (loads (x .instruction)) (loadOf (lent (now (memory .entry))) (accessAddress x)) 0 ⌝ }
 {
     let loads = (kind == LOADS_AT_E) | (kind == LOADS_AT_A);
     if loads {
@@ -73,7 +73,7 @@ fn loaded_word(kind: u8, x: Executed, memory: &[u8]) -> u64
 
 pub fn access(kind: u8, x: Executed, memory: &[u8]) -> Accessed
     requires { ⌜ kind ≡ accessKind x ⌝ }
-    ensures { λ r. ⌜ r ≡ accessOf x (now (memory .entry)) ⌝ }
+    ensures { λ r. ⌜ r ≡ accessOf x (lent (now (memory .entry))) ⌝ }
 {
     let i = x.instruction;
     let word = loaded_word(kind, x, memory);
@@ -90,7 +90,7 @@ pub fn access(kind: u8, x: Executed, memory: &[u8]) -> Accessed
 // The clock's or the step's write.
 pub fn update(kind: u8, x: Executed, memory: &mut [u8])
     requires { ⌜ kind ≡ accessKind x ⌝ }
-    ensures { λ _. ⌜ now (memory .exit) ≡ newMemory x (now (memory .entry)) ⌝ }
+    ensures { λ _. ⌜ lent (now (memory .exit)) ≡ newMemory x (lent (now (memory .entry))) ⌝ }
 {
     let stores = (kind == STORES_A) | (kind == STORES_NEXT);
     if stores {

@@ -12,7 +12,6 @@ use Rattle.text.specs.Parts.{Text, has, before, behind, tab, lineFeed, lines}
 use Rattle.text.specs.PartsLaws.{has-nowhere}
 use Rattle.text.specs.Hex.{hexNumber, hexBytes}
 use Rattle.text.specs.HexLaws.{hexBytes-length}
-use Rattle.machine.specs.Memory.{Memory}
 use Rattle.machine.specs.Runs.{sizeRefused}
 use Rattle.listing.specs.Grammar.{Record, addressOf, bytesOf, endOf, laid, imageOf}
 use Rattle.listing.specs.Reading.{Kind, Reading, form, right, good, faulty, Answer, refused, readAs, recordOf, records, fault, judged, verdict}
@@ -20,7 +19,7 @@ use Rattle.listing.specs.Reading.{answered, done, listed}
 use Rattle.listing.specs.ReadingLaws.{judged-first, judged-last, records-first, went-on, Fine, fine, short-address}
 use Rattle.listing.proofs.Judgement.{line-is, is-ended, rest-is}
 
-pub laid-length : (rs : List Record) (m : Memory) → length (laid rs m) ≡ length m
+pub laid-length : (rs : List Record) (m : List ℕ) → length (laid rs m) ≡ length m
 unfolding laid
 laid-length [] m = refl
 laid-length (r ∷ rs) m = laid-length rs (sets m (addressOf r) (bytesOf r)) ∙ length-sets m (addressOf r) (bytesOf r)
@@ -38,23 +37,23 @@ module _ (l a rest b : Text) (n : ℕ) (ha : a ≡ before tab l) (hr : rest ≡ 
         let p : n + length b / 2 ≡ hexNumber (before tab l) + length (hexBytes (before tab (behind tab l))) = cc (hexBytes-length b) in
         omega arith
 
-    pub line-laid : (m m′ : Memory) → m′ ≡ sets m n (hexBytes b) → m′ ≡ laid (recordOf l ∷ []) m
+    pub line-laid : (m m′ : List ℕ) → m′ ≡ sets m n (hexBytes b) → m′ ≡ laid (recordOf l ∷ []) m
     unfolding recordOf laid addressOf bytesOf
     line-laid m m′ e = cc
 
 -- LINE BY LINE: what is still to lay is judged good
-pub record Lays (text : Text) (m₀ m : Memory) (at : ℕ) : Type 0 where
+pub record Lays (text : Text) (m₀ m : List ℕ) (at : ℕ) : Type 0 where
   pub rest : laid (records (lines (drop at text))) m ≡ laid (records (lines text)) m₀
   pub long : length m ≡ length m₀
   pub free : ℕ
   pub number : ℕ
   pub still : judged (length m₀) free number (lines (drop at text)) ≡ good
 
-pub lays-none : (text : Text) (m : Memory) → verdict (length m) text ≡ good → Lays text m m 0
+pub lays-none : (text : Text) (m : List ℕ) → verdict (length m) text ≡ good → Lays text m m 0
 unfolding verdict
 lays-none text m h = record { rest = refl; long = refl; free = 0; number = 1; still = h }
 
-module _ (text : Text) (m₀ m : Memory) (at : ℕ) (h : Lays text m₀ m at) where
+module _ (text : Text) (m₀ m : List ℕ) (at : ℕ) (h : Lays text m₀ m at) where
   pub lays-all : length text ≤ at → m ≡ laid (records (lines text)) m₀
   unfolding laid records lines
   lays-all q = ap (λ (t : Text). laid (records (lines t)) m) (sym (drop-of-length-le text q)) ∙ h .rest
@@ -86,7 +85,7 @@ module _ (text : Text) (m₀ m : Memory) (at : ℕ) (h : Lays text m₀ m at) wh
         let f = fine (length m₀) (h .free) (recordOf (before lineFeed (drop at text))) (goes .0) (goes .1) in
         rw (line-is text at end e) (short-address (recordOf (before lineFeed (drop at text))) (f .formed), omega (arith, f .within, h .long))
 
-    pub lays-more : (m′ : Memory) → m′ ≡ laid (recordOf (take (end - at) (drop at text)) ∷ []) m → Lays text m₀ m′ (end + 1)
+    pub lays-more : (m′ : List ℕ) → m′ ≡ laid (recordOf (take (end - at) (drop at text)) ∷ []) m → Lays text m₀ m′ (end + 1)
     unfolding laid
     lays-more m′ p =
         let more = rest-is text at end e lays-ended in
@@ -102,7 +101,7 @@ module _ (text : Text) (m₀ m : Memory) (at : ℕ) (h : Lays text m₀ m at) wh
         }
 
 -- THE READER
-module _ (t : Text) (m : Memory) (x : Bool) (hx : x ≡ sizeRefused (length m)) where
+module _ (t : Text) (m : List ℕ) (x : Bool) (hx : x ≡ sizeRefused (length m)) where
   pub refuses : x ≡ true → answered (refused 1) m ≡ listed t m
   unfolding listed
   refuses e = cc
@@ -111,7 +110,7 @@ module _ (t : Text) (m : Memory) (x : Bool) (hx : x ≡ sizeRefused (length m)) 
     pub is-listing : v ≡ good → verdict (length m) t ≡ good
     is-listing e = sym hv ∙ e
 
-    pub reads : (m′ m″ : Memory) → v ≡ good → m′ ≡ replicate (length m) 0 → m″ ≡ laid (records (lines t)) m′ → answered (readAs good) m″ ≡ listed t m
+    pub reads : (m′ m″ : List ℕ) → v ≡ good → m′ ≡ replicate (length m) 0 → m″ ≡ laid (records (lines t)) m′ → answered (readAs good) m″ ≡ listed t m
     unfolding listed done imageOf
     reads m′ m″ e p q = cc
 
@@ -120,5 +119,5 @@ module _ (t : Text) (m : Memory) (x : Bool) (hx : x ≡ sizeRefused (length m)) 
     finds n k e = cc
 
     -- cleared memory is as long as it was
-    pub still-listing : (m′ : Memory) → v ≡ good → m′ ≡ replicate (length m) 0 → verdict (length m′) t ≡ good
+    pub still-listing : (m′ : List ℕ) → v ≡ good → m′ ≡ replicate (length m) 0 → verdict (length m′) t ≡ good
     still-listing m′ e p = ap (λ (n : ℕ). verdict n t) (ap length p ∙ length-replicate (length m) 0) ∙ is-listing e

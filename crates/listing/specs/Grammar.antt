@@ -8,7 +8,6 @@ use lib.ListN.{length, replicate}
 use lib.Seq.{sets}
 use Rattle.text.specs.Parts.{Text, has, tab, lineFeed}
 use Rattle.text.specs.Hex.{allHex, hexNumber, hexBytes}
-use Rattle.machine.specs.Memory.{Memory}
 
 -- "an optional remark, the rest of the line", tabs in it included
 pub data Remark : Type 0 where
@@ -47,12 +46,12 @@ unfoldable pub endOf : Record → ℕ
 endOf r = addressOf r + length (bytesOf r)
 
 -- memory with the bytes of these records, each from its address on
-unfoldable pub laid : List Record → Memory → Memory
+unfoldable pub laid : List Record → List ℕ → List ℕ
 laid [] m = m
 laid (r ∷ rs) m = laid rs (sets m (addressOf r) (bytesOf r))
 
 -- "unnamed bytes become 0"
-unfoldable pub imageOf : ℕ → List Record → Memory
+unfoldable pub imageOf : ℕ → List Record → List ℕ
 imageOf size rs = laid rs (replicate size 0)
 
 -- WHICH RECORDS MAKE A LISTING

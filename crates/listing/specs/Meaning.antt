@@ -6,7 +6,6 @@ use Prim.Native.Nat.{ℕ, zero, suc, _+_, _≤_, _<_}
 use native.Mathlib.Omega.{arith}
 use lib.ListN.{length, getD, set, replicate, length-set, length-replicate}
 use lib.Seq.{sets, length-sets, getD-set-same, getD-set-other}
-use Rattle.machine.specs.Memory.{Memory}
 use Rattle.listing.specs.Grammar.{Record, addressOf, bytesOf, endOf, laid, imageOf, Listing, end, more}
 
 -- THE LINES
@@ -46,20 +45,20 @@ sets-inside (v ∷ vs) m i (suc k) h l =
 abbrev pub Unnamed : List Record → ℕ → Type 0
 Unnamed rs a = (s : Record) → List·Memᴰ s rs → (k : ℕ) → k < length (bytesOf s) → a ≡ addressOf s + k → ⊥
 
-stays : (rs : List Record) (m : Memory) (a : ℕ) → Unnamed rs a → getD (laid rs m) a 0 ≡ getD m a 0
+stays : (rs : List Record) (m : List ℕ) (a : ℕ) → Unnamed rs a → getD (laid rs m) a 0 ≡ getD m a 0
 unfolding laid
 stays [] m a h = refl
 stays (r ∷ rs) m a h =
     stays rs (sets m (addressOf r) (bytesOf r)) a (λ s n. h s (List·Memᴰ·tail n)) ∙ sets-outside (bytesOf r) m (addressOf r) a (h r (List·Memᴰ·head refl))
 
-lies : {size free : ℕ} {rs : List Record} {s : Record} → Listing size free rs → List·Memᴰ s rs → (m : Memory) → length m ≡ size
+lies : {size free : ℕ} {rs : List Record} {s : Record} → Listing size free rs → List·Memᴰ s rs → (m : List ℕ) → length m ≡ size
     → (k : ℕ) → k < length (bytesOf s) → getD (laid rs m) (addressOf s + k) 0 ≡ getD (bytesOf s) k 0
 unfolding laid endOf
 lies end n m l k h = absurd (List·Memᴰ·not-nil n)
 lies {size} {s = s} (more {r = r} {rs = rs} w above within rest) n m l k h = go (List·Memᴰ·cases-cons n) (λ q. lies rest q (sets m (addressOf r)
     (bytesOf r)) (length-sets m (addressOf r) (bytesOf r) ∙ l) k h)
   where
-    u : Memory
+    u : List ℕ
     u = sets m (addressOf r) (bytesOf r)
 
     later : s ≡ r → Unnamed rs (addressOf s + k)

@@ -5,7 +5,6 @@ use mathlib.Core.List.{List, [], _∷_}
 use mathlib.Core.Path.{_≡_}
 use lib.Dec.{eqb, ltb}
 use lib.ListN.{length}
-use Rattle.machine.specs.Memory.{Memory}
 use Rattle.machine.specs.Runs.{sizeRefused}
 use Rattle.text.specs.Parts.{Text, has, before, behind, tab, lineFeed, lines}
 use Rattle.text.specs.Hex.{allHex}
@@ -80,15 +79,15 @@ verdict size t = judged size 0 1 (lines t)
 -- THE ANSWER, and what memory holds
 pub record Answered : Type 0 where
   pub answer : Answer
-  pub memory : Memory
+  pub memory : List ℕ
 
-abbrev pub answered : Answer → Memory → Answered
+abbrev pub answered : Answer → List ℕ → Answered
 answered a m = record { answer = a; memory = m }
 
 -- "A refusal leaves memory as it was, so the text is read fully before any byte is written."
-unfoldable pub done : Reading → Text → Memory → Answered
+unfoldable pub done : Reading → Text → List ℕ → Answered
 done good t m = answered (readAs good) (imageOf (length m) (records (lines t)))
 done (faulty n k) t m = answered (readAs (faulty n k)) m
 
-unfoldable pub listed : Text → Memory → Answered
+unfoldable pub listed : Text → List ℕ → Answered
 listed t m = cond (sizeRefused (length m)) (answered (refused 1) m) (done (verdict (length m) t) t m)

@@ -10,7 +10,6 @@ use lib.Seq.{sets}
 use Rattle.text.specs.Bytes.{bytes}
 use Rattle.text.specs.Parts.{has, before, behind, lines}
 use Rattle.text.specs.Hex.{isHex, hexValue, allHex, hexFrom, hexNumber, hexBytes}
-use Rattle.machine.specs.Memory.{Memory}
 use Rattle.machine.specs.Runs.{sizeRefused}
 use Rattle.listing.specs.Grammar.{addressOf, bytesOf, endOf, laid, imageOf}
 use Rattle.listing.specs.Reading.{kindNumber, recordOf, records, missing, malformed, miscounted, inPlace, fault, lowestKind, checked, goesOn, judged}
@@ -23,12 +22,12 @@ pub record Case : Type 0 where
   pub number : ℕ
   pub line : ℕ
   pub kind : ℕ
-  pub memory : Memory
+  pub memory : List ℕ
 
-abbrev lent : ℕ → Memory
+abbrev lent : ℕ → List ℕ
 lent size = replicate size 7
 
-abbrev reads : (size : ℕ) → String → Memory → Case
+abbrev reads : (size : ℕ) → String → List ℕ → Case
 reads n t m = record { size = n; text = t; number = 0; line = 0; kind = 0; memory = m }
 
 abbrev finds : (size : ℕ) → String → (line kind : ℕ) → Case

@@ -6,7 +6,6 @@ use Prim.Native.Nat.{ℕ}
 use lib.Dec.{eqb}
 use lib.ListN.{length}
 use borrow.Author.Tests.{eq-eqb, ne-eqb, eqb-true, not-false}
-use Rattle.machine.specs.Memory.{Memory}
 use Rattle.machine.specs.Runs.{sizeRefused, lowest}
 use Rattle.answers.specs.Refusals.{failed}
 use Rattle.text.specs.Parts.{Text}
@@ -61,7 +60,7 @@ module _ (t : Text) (m fault : List ℕ) (n : ℕ) (h : n ≡ listingRefusal (le
   unfolding listingRead
   listing-refused z = cc (ne-eqb n 0 z)
 
-  pub listing-told : (a : Answer) (m′ : Memory) (r : ℕ) (fault′ : List ℕ) → n ≡ 0 → answered a m′ ≡ listed t m → told a fault ≡ (r, fault′)
+  pub listing-told : (a : Answer) (m′ : List ℕ) (r : ℕ) (fault′ : List ℕ) → n ≡ 0 → answered a m′ ≡ listed t m → told a fault ≡ (r, fault′)
       → listingEdge r m′ fault′ ≡ listingRead t m fault
   unfolding listingRead toldOf
   listing-told a m′ r fault′ z e f =

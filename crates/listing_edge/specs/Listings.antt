@@ -4,7 +4,6 @@ use mathlib.Core.Bool.{cond, not}
 use mathlib.Core.List.{List, [], _∷_}
 use lib.Dec.{eqb}
 use lib.ListN.{length}
-use Rattle.machine.specs.Memory.{Memory}
 use Rattle.machine.specs.Runs.{sizeRefused, lowest}
 use Rattle.text.specs.Parts.{Text}
 use Rattle.listing.specs.declared.Reading.the-variants.{Good as good, Faulty as faulty}
@@ -26,16 +25,16 @@ told (readAs (faulty line kind)) fault = (9, withWords (line ∷ kindNumber kind
 -- the answer, and what the two lent slices hold
 pub record ListingEdge : Type 0 where
   pub answer : ℕ
-  pub memory : Memory
+  pub memory : List ℕ
   pub fault : List ℕ
 
-abbrev pub listingEdge : ℕ → Memory → List ℕ → ListingEdge
+abbrev pub listingEdge : ℕ → List ℕ → List ℕ → ListingEdge
 listingEdge n m f = record { answer = n; memory = m; fault = f }
 
 unfoldable pub toldOf : Answered → List ℕ → ListingEdge
 toldOf a fault = listingEdge (told (a .answer) fault .0) (a .memory) (told (a .answer) fault .1)
 
-unfoldable pub listingRead : Text → Memory → List ℕ → ListingEdge
+unfoldable pub listingRead : Text → List ℕ → List ℕ → ListingEdge
 listingRead t m fault =
     let n = listingRefusal (length m) (length fault) in
     cond (eqb n 0) (toldOf (listed t m) fault) (listingEdge n m fault)

@@ -11,11 +11,11 @@ use Rattle.machine.specs.Table.{rowOf, RegisterByte, noByte, bothNamed, 
 
 -- the table length of the instruction at a, by the code in its first byte
 unfoldable pub sizeAt : Memory → ℕ → ℕ
-sizeAt m a = rowOf (getD m a 0 / 16) .size
+sizeAt m a = rowOf (getD (m .bytes) a 0 / 16) .size
 
 -- "An instruction's bytes are its table length from its address, cut at N."
 unfoldable pub ownBytes : Memory → ℕ → List ℕ
-ownBytes m a = take (sizeAt m a) (drop a m)
+ownBytes m a = take (sizeAt m a) (drop a (m .bytes))
 
 -- "An instruction fetched with status not AOK travels as a nop with that status; its predicted address is its own."
 unfoldable pub stopping : ℕ → Status → Instruction

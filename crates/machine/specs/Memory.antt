@@ -6,9 +6,17 @@ use lib.Dec.{ltb}
 use lib.ListN.{length, getD, set}
 use Rattle.machine.specs.Words.{number, placed}
 
--- "Memory is N lent bytes": the list of their values, each below 256 where bytes are lent
-abbrev pub Memory : Type 0
-Memory = List ℕ
+-- "Memory is N lent bytes": a value that holds all that decides what an address reaches; today the bytes are all of it
+pub record Memory : Type 0 where
+  pub bytes : List ℕ
+
+-- the memory made of what is lent, the values of its bytes, each below 256
+abbrev pub lent : List ℕ → Memory
+lent b = record { bytes = b }
+
+-- N
+abbrev pub size : Memory → ℕ
+size m = length (m .bytes)
 
 -- "Fifteen registers of 64 bits, 0 to 14": the list of their values, of the length that the record's array has
 abbrev pub Registers : Type 0
@@ -16,15 +24,15 @@ Registers = List ℕ
 
 -- "A word at address a is inside exactly when a + 7, without wrapping, is below N"
 unfoldable pub inside : Memory → ℕ → Bool
-inside m a = ltb (a + 7) (length m)
+inside m a = ltb (a + 7) (size m)
 
 -- the word at a; "A load outside memory reads 0"
 unfoldable pub load : Memory → ℕ → ℕ
-load m a = cond (inside m a) (number 8 m a) 0
+load m a = cond (inside m a) (number 8 (m .bytes) a) 0
 
 -- memory with the word v at a; "a store outside writes nothing"
 unfoldable pub store : Memory → ℕ → ℕ → Memory
-store m a v = cond (inside m a) (placed 8 m a v) m
+store m a v = cond (inside m a) (lent (placed 8 (m .bytes) a v)) m
 
 -- "Register 15 as a source reads 0"
 unfoldable pub value : Registers → ℕ → ℕ

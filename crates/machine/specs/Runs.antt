@@ -5,7 +5,7 @@ use mathlib.Core.List.{List, [], _∷_}
 use lib.Dec.{ltb, eqb}
 use lib.ListN.{length}
 use Rattle.machine.specs.Types.{Machine, FetchAnswer, adr}
-use Rattle.machine.specs.Memory.{Memory}
+use Rattle.machine.specs.Memory.{Memory, size}
 use Rattle.machine.specs.Fetch.{fetch, stopping}
 use Rattle.machine.specs.Plain.{Plain, plainOf, steps}
 
@@ -37,7 +37,7 @@ lowest (t ∷ ts) = cond (t .1) (t .0) (lowest ts)
 -- FETCHING, which has no record to give back: refused, it answers the nop that a fetch outside memory gives
 unfoldable pub fetchAnswer : Memory → ℕ → FetchAnswer
 fetchAnswer m a =
-    let n = lowest ((1, sizeRefused (length m)) ∷ []) in
+    let n = lowest ((1, sizeRefused (size m)) ∷ []) in
     record { number = n; instruction = cond (eqb n 0) (fetch m a) (stopping a adr) }
 
 -- THE PLAIN RUN
@@ -64,7 +64,7 @@ plainDone s log = plainAnswer 0 (s .machine) (s .memory) (laid (s .log) log)
 -- a refusal is "number, the record as given, nothing changed"; logs are the lengths of the logs lent
 unfoldable pub plainBy : List ℕ → Machine → Memory → ℕ → List ℕ → PlainAnswer
 plainBy logs k m budget log =
-    let n = plainRefusal (length m) (k .count) budget logs in
+    let n = plainRefusal (size m) (k .count) budget logs in
     cond (eqb n 0) (plainDone (steps (plainOf k m) budget) log) (plainAnswer n k m log)
 
 unfoldable pub plainRun : Machine → Memory → ℕ → List ℕ → PlainAnswer

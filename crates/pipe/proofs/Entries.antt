@@ -9,7 +9,7 @@ use lib.ListN.{length}
 use borrow.Author.Tests.{eq-eqb, ne-eqb, ltb-false}
 use Rattle.clocked.specs.declared.Pipeline.{Pipeline}
 use Rattle.answers.specs.Logs.{laid-none}
-use Rattle.machine.specs.Memory.{Memory}
+use Rattle.machine.specs.Memory.{Memory, size}
 use Rattle.clocked.specs.Prediction.{coreOf}
 use Rattle.clocked.specs.Pipeline.{pipedOf, clocks}
 use Rattle.machine.specs.Runs.{sizeRefused, budgetRefused, logRefused}
@@ -20,7 +20,7 @@ use Rattle.pipe.specs.Parts.{refusalBy, answerBy}
 use Rattle.answers.specs.Refusals.{failed}
 use Rattle.laws.specs.Tests.{neither}
 
-module _ (short : Bool) (k : Pipeline) (m : Memory) (budget : ℕ) (a y : List ℕ) (n : ℕ) (e : n ≡ refusalBy short k (length m) budget) where
+module _ (short : Bool) (k : Pipeline) (m : Memory) (budget : ℕ) (a y : List ℕ) (n : ℕ) (e : n ≡ refusalBy short k (size m) budget) where
   pub refused : (n ≡ 0 → ⊥) → pipeAnswer n k m a y ≡ answerBy short k m budget a y
   unfolding answerBy
   refused h = cc (ne-eqb n 0 h)
@@ -67,10 +67,10 @@ bare t = pipeAnswer (t .number) (t .pipeline) (t .memory) [] []
 pub without-logs : (k : Pipeline) (m : Memory) (budget n : ℕ) (p : Pipeline) (m′ a′ y′ : List ℕ) → pipeAnswer n p m′ a′ y′ ≡ answerBy false k m budget [] []
     → pipeAnswer n p m′ [] [] ≡ pipeRunUnlogged k m budget
 unfolding pipeRunUnlogged logRefused answerBy pipeDone
-without-logs k m budget n p m′ a′ y′ e = ap bare e ∙ (go (eqb (refusalBy false k (length m) budget) 0) ∙ by-logs [] false k m budget [] [] refl)
+without-logs k m budget n p m′ a′ y′ e = ap bare e ∙ (go (eqb (refusalBy false k (size m) budget) 0) ∙ by-logs [] false k m budget [] [] refl)
   where
-    go : (b : Bool) → bare (cond b (pipeDone (clocks (coreOf (k .settings)) (pipedOf k m) budget) [] []) (pipeAnswer (refusalBy false k (length m) budget) k m [] []))
-        ≡ cond b (pipeDone (clocks (coreOf (k .settings)) (pipedOf k m) budget) [] []) (pipeAnswer (refusalBy false k (length m) budget) k m [] [])
+    go : (b : Bool) → bare (cond b (pipeDone (clocks (coreOf (k .settings)) (pipedOf k m) budget) [] []) (pipeAnswer (refusalBy false k (size m) budget) k m [] []))
+        ≡ cond b (pipeDone (clocks (coreOf (k .settings)) (pipedOf k m) budget) [] []) (pipeAnswer (refusalBy false k (size m) budget) k m [] [])
     go true = simp laid-none
     go false = refl
 

@@ -99,7 +99,7 @@ small-enough n t h s = record { retired = omega arith; cycles = omega arith; loa
 
 -- FROM CLOCK TO CLOCK
 -- after n clocks of a run from p₀ that began with first retirements and the logs a₀ and y₀
-pub record Here (s : Settings) (p₀ : Piped) (first : ℕ) (a₀ y₀ : List ℕ) (n : ℕ) (f : Flow) (t : Tally) (x : Status) (r m a y : List ℕ) : Type 0 where
+pub record Here (s : Settings) (p₀ : Piped) (first : ℕ) (a₀ y₀ : List ℕ) (n : ℕ) (f : Flow) (t : Tally) (x : Status) (r : List ℕ) (m : Memory) (a y : List ℕ) : Type 0 where
   pub entries : List ℕ
   pub times : List ℕ
   pub state : clocks (coreOf s) p₀ n ≡ piped (whole s f t x r) m entries times
@@ -111,7 +111,7 @@ pub record Here (s : Settings) (p₀ : Piped) (first : ℕ) (a₀ y₀ : List �
   pub ahead : f .ahead ≡ aheadOf (coreOf s) (f .m) (f .w)
   pub long : length r ≡ 15
 
-pub here-first : {f : Flow} {t : Tally} {x : Status} {r m a y : List ℕ} (k : Pipeline) → f ≡ flowOf k → length r ≡ 15 → t ≡ tallyOf k → countsRefused k ≡ false
+pub here-first : {f : Flow} {t : Tally} {x : Status} {r : List ℕ} {m : Memory} {a y : List ℕ} (k : Pipeline) → f ≡ flowOf k → length r ≡ 15 → t ≡ tallyOf k → countsRefused k ≡ false
     → k .cycles ≤ pipeLimit
     → Here (k .settings) (pipedOf (whole (k .settings) f t x r) m) (k .retired) a y 0 f t x r m a y
 unfolding clocks laid flowOf tallyOf
@@ -130,11 +130,11 @@ here-first k i l e h c =
     }
 
 -- one clock more of a machine that has not stopped; b, q and v are what the code found bad, retiring and bad in W
-module _ {s : Settings} {p₀ : Piped} {first : ℕ} {a₀ y₀ : List ℕ} {n : ℕ} {f : Flow} {t t′ : Tally} {x x′ : Status} {r m a y a′ y′ : List ℕ} {b q v : Bool}
+module _ {s : Settings} {p₀ : Piped} {first : ℕ} {a₀ y₀ : List ℕ} {n : ℕ} {f : Flow} {t t′ : Tally} {x x′ : Status} {r : List ℕ} {m : Memory} {a y a′ y′ : List ℕ} {b q v : Bool}
     (h : Here s p₀ first a₀ y₀ n f t x r m a y) (eb : b ≡ isBad x) (good : b ≡ false) (eq : q ≡ retires (f .w)) (et : t′ ≡ tallyAfter (coreOf s) t (f .w))
     (ex : x′ ≡ statusAfter (f .w))
     (ea : a′ ≡ noted q (t .retired - first) (t′ .last) a) (ey : y′ ≡ noted q (t .retired - first) (t′ .cycles) y) (ev : v ≡ badInW (f .w)) where
-  here-after : (f′ : Flow) (r′ m′ : List ℕ) → clock (coreOf s) (piped (whole s f t x r) m (h .entries) (h .times)) ≡ after s t (h .entries) (h .times) (f .w) f′ r′ m′
+  here-after : (f′ : Flow) (r′ : List ℕ) (m′ : Memory) → clock (coreOf s) (piped (whole s f t x r) m (h .entries) (h .times)) ≡ after s t (h .entries) (h .times) (f .w) f′ r′ m′
       → f′ .ahead ≡ aheadOf (coreOf s) (f′ .m) (f′ .w) → length r′ ≡ 15 → Here s p₀ first a₀ y₀ (n + 1) f′ t′ x′ r′ m′ a′ y′
   unfolding clocks tallyAfter
   here-after f′ r′ m′ e i l =
@@ -154,7 +154,7 @@ module _ {s : Settings} {p₀ : Piped} {first : ℕ} {a₀ y₀ : List ℕ} {n :
         long = l;
       }
 
-  pub here-next : {f′ : Flow} {r′ m′ : List ℕ} → v ≡ false → f′ ≡ flowAfter (coreOf s) f r m → r′ ≡ registersAfter (f .w) r → m′ ≡ memoryAfter (f .m) m
+  pub here-next : {f′ : Flow} {r′ : List ℕ} {m′ : Memory} → v ≡ false → f′ ≡ flowAfter (coreOf s) f r m → r′ ≡ registersAfter (f .w) r → m′ ≡ memoryAfter (f .m) m
       → Here s p₀ first a₀ y₀ (n + 1) f′ t′ x′ r′ m′ a′ y′
   unfolding flowAfter shiftedOf
   here-next w ef er em = rw (ef, er, em) (here-after _ _ _ (goes s f t x r m (h .entries) (h .times) (cc) (cc)) refl (length-after-w (f .w) r ∙ h .long))
@@ -170,7 +170,7 @@ same-start ef et = rw (ef, et)
 
 -- by each way out of the loop the variables primed are those that it left
 module _ {s : Settings} {p₀ : Piped} {k : Pipeline} {m₀ : Memory} {first : ℕ} {a₀ y₀ : List ℕ} {n : ℕ} {f : Flow} {t t′ : Tally} {x x′ : Status}
-    {r m a y a′ y′ : List ℕ} {p : Pipeline} (budget : ℕ) (from : p₀ ≡ pipedOf k m₀) (h : Here s p₀ first a₀ y₀ n f t x r m a y)
+    {r : List ℕ} {m : Memory} {a y a′ y′ : List ℕ} {p : Pipeline} (budget : ℕ) (from : p₀ ≡ pipedOf k m₀) (h : Here s p₀ first a₀ y₀ n f t x r m a y)
     (to : p ≡ whole s f t′ x′ r) (ea : a′ ≡ a) (ey : y′ ≡ y) (et : t′ ≡ t) (ex : x′ ≡ x) where
   pub at-budget : n ≡ budget → pipeAnswer 0 p m a′ y′ ≡ pipeDone (clocks (coreOf s) (pipedOf k m₀) budget) a₀ y₀
   unfolding pipeDone
@@ -184,7 +184,8 @@ module _ {s : Settings} {p₀ : Piped} {k : Pipeline} {m₀ : Memory} {first : �
       cc (stays (coreOf s) p₀ n (budget - n) bad)
 
 -- the logs keep their lengths
-pub same-lengths : (k : Pipeline) (m a y a₀ y₀ : List ℕ) (p : Piped) → pipeAnswer 0 k m a y ≡ pipeDone p a₀ y₀ → (length a ≡ length a₀) × (length y ≡ length y₀)
+pub same-lengths : (k : Pipeline) (m : Memory) (a y a₀ y₀ : List ℕ) (p : Piped) → pipeAnswer 0 k m a y ≡ pipeDone p a₀ y₀
+    → (length a ≡ length a₀) × (length y ≡ length y₀)
 unfolding pipeDone
 same-lengths k m a y a₀ y₀ p e = (
   ap (λ (t : PipeAnswer). length (t .addresses)) e ∙ laid-length (p .addressLog) a₀,

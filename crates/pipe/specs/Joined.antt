@@ -14,7 +14,7 @@ use Rattle.clocked.specs.declared.StageD.the-variants.{BubbleD as bubbleD, InD 
 use Rattle.clocked.specs.declared.StageW.{StageW}
 use Rattle.clocked.specs.declared.StageW.the-variants.{BubbleW as bubbleW, InW as inW}
 use Rattle.machine.specs.Types.{isBad}
-use Rattle.machine.specs.Memory.{Memory}
+use Rattle.machine.specs.Memory.{Memory, size}
 use Rattle.clocked.specs.Prediction.{Core, coreOf}
 use Rattle.clocked.specs.Pipeline.{Piped, pipedOf, source, sourceM, sourceW, waits, mispredicts, returns, fails, fetchAddress, fetchedNow, nextF}
 use Rattle.clocked.specs.Pipeline.{nextD, nextE, nextM, nextCodes, decodedD, retiredAfter, logged, advanced, stoppedIn, clockBy, clock, clocks}
@@ -123,7 +123,7 @@ module _ (g : Core) where
 done : (logs : List ℕ) (k : Pipeline) (m : Memory) (n : ℕ) (a y : List ℕ) → pipeBy logs k m n a y .number ≡ 0
     → pipeBy logs k m n a y ≡ pipeDone (clocks (coreOf (k .settings)) (pipedOf k m) n) a y
 unfolding pipeBy
-done logs k m n a y h = ran (λ o. o .number) (pipeRefusal k (length m) n logs) _ _ refl h
+done logs k m n a y h = ran (λ o. o .number) (pipeRefusal k (size m) n logs) _ _ refl h
 
 done-run : (k : Pipeline) (m : Memory) (n : ℕ) (a y : List ℕ) → pipeRun k m n a y .number ≡ 0
     → pipeRun k m n a y ≡ pipeDone (clocks (coreOf (k .settings)) (pipedOf k m) n) a y

@@ -7,7 +7,7 @@ use lib.ListN.{length, set}
 use Rattle.clocked.specs.declared.Settings.{Settings}
 use Rattle.clocked.specs.declared.Pipeline.{Pipeline}
 use Rattle.machine.specs.declared.Status.{Status}
-use Rattle.machine.specs.Memory.{Memory, Registers}
+use Rattle.machine.specs.Memory.{Memory, size, Registers}
 use Rattle.clocked.specs.Prediction.{coreOf}
 use Rattle.clocked.specs.Pipeline.{pipedOf, clocks}
 use Rattle.machine.specs.Runs.{sizeRefused, budgetRefused, lowest}
@@ -68,5 +68,5 @@ refusalBy short k size budget =
 -- the answer of every entry
 unfoldable pub answerBy : Bool → Pipeline → Memory → ℕ → List ℕ → List ℕ → PipeAnswer
 answerBy short k m budget a y =
-    let n = refusalBy short k (length m) budget in
+    let n = refusalBy short k (size m) budget in
     cond (eqb n 0) (pipeDone (clocks (coreOf (k .settings)) (pipedOf k m) budget) a y) (pipeAnswer n k m a y)

@@ -17,6 +17,7 @@ use machine::REGISTERS;
 use machine::Status;
 ghost use mathlib.Core.Path.{_≡_};
 ghost use mathlib.Core.List.{[]};
+ghost use Rattle.machine.specs.Memory.{lent};
 ghost use Rattle.clocked.specs.Prediction.{asIn01};
 ghost use Rattle.clocked.specs.Pipeline.{pipeStart};
 ghost use Rattle.clocked.specs.PipeRuns.{pipeAnswer, pipeRun, pipeRunUnlogged, pipeClock};
@@ -74,8 +75,8 @@ fn perform(
     addresses: &mut [u64],
     cycles: &mut [u64],
 ) -> Answer
-    ensures { λ r. ⌜ pipeAnswer (r .number) (r .pipeline) (now (memory .exit)) (now (addresses .exit)) (now (cycles .exit))
-        ≡ answerBy short pipeline (now (memory .entry)) budget (now (addresses .entry)) (now (cycles .entry)) ⌝ }
+    ensures { λ r. ⌜ pipeAnswer (r .number) (r .pipeline) (lent (now (memory .exit))) (now (addresses .exit)) (now (cycles .exit))
+        ≡ answerBy short pipeline (lent (now (memory .entry))) budget (now (addresses .entry)) (now (cycles .entry)) ⌝ }
 {
     let number = refusal(pipeline, memory.len(), budget, short);
     if number != 0 {
@@ -96,8 +97,8 @@ pub fn run(
     addresses: &mut [u64],
     cycles: &mut [u64],
 ) -> Answer
-    ensures { λ r. ⌜ pipeAnswer (r .number) (r .pipeline) (now (memory .exit)) (now (addresses .exit)) (now (cycles .exit))
-        ≡ pipeRun pipeline (now (memory .entry)) budget (now (addresses .entry)) (now (cycles .entry)) ⌝ }
+    ensures { λ r. ⌜ pipeAnswer (r .number) (r .pipeline) (lent (now (memory .exit))) (now (addresses .exit)) (now (cycles .exit))
+        ≡ pipeRun pipeline (lent (now (memory .entry))) budget (now (addresses .entry)) (now (cycles .entry)) ⌝ }
 {
     let short = ((addresses.len() as u64) < budget) | ((cycles.len() as u64) < budget);
     perform(pipeline, memory, budget, short, addresses, cycles)
@@ -105,7 +106,8 @@ pub fn run(
 
 // A run without logs.
 pub fn run_unlogged(pipeline: Pipeline, memory: &mut [u8], budget: u64) -> Answer
-    ensures { λ r. ⌜ pipeAnswer (r .number) (r .pipeline) (now (memory .exit)) [] [] ≡ pipeRunUnlogged pipeline (now (memory .entry)) budget ⌝ }
+    ensures { λ r. ⌜ pipeAnswer (r .number) (r .pipeline) (lent (now (memory .exit))) [] []
+        ≡ pipeRunUnlogged pipeline (lent (now (memory .entry))) budget ⌝ }
 {
     let mut addresses = [0u64; 1];
     let mut cycles = [0u64; 1];
@@ -121,7 +123,7 @@ pub fn run_unlogged(pipeline: Pipeline, memory: &mut [u8], budget: u64) -> Answe
 
 // A clock is a run of 1 without logs.
 pub fn clock(pipeline: Pipeline, memory: &mut [u8]) -> Answer
-    ensures { λ r. ⌜ pipeAnswer (r .number) (r .pipeline) (now (memory .exit)) [] [] ≡ pipeClock pipeline (now (memory .entry)) ⌝ }
+    ensures { λ r. ⌜ pipeAnswer (r .number) (r .pipeline) (lent (now (memory .exit))) [] [] ≡ pipeClock pipeline (lent (now (memory .entry))) ⌝ }
 {
     run_unlogged(pipeline, memory, 1)
 }

@@ -18,6 +18,7 @@ use stage::signals::wrong;
 ghost use mathlib.Core.Path.{_≡_};
 ghost use mathlib.Core.Bool.{false};
 ghost use Prim.Native.Nat.{_+_, _≤_};
+ghost use Rattle.machine.specs.Memory.{lent};
 ghost use Rattle.clocked.specs.Prediction.{coreOf};
 ghost use Rattle.clocked.specs.Pipeline.{pipedOf, clocks};
 ghost use Rattle.clocked.specs.PipeRuns.{pipeLimit, pipeAnswer, pipeDone, countsRefused};
@@ -116,8 +117,8 @@ pub fn looped(
     cycles: &mut [u64],
 ) -> Pipeline
     requires { ⌜ (pipeline .cycles + budget ≤ pipeLimit) × (countsRefused pipeline ≡ false) ⌝ }
-    ensures { λ r. ⌜ pipeAnswer 0 r (now (memory .exit)) (now (addresses .exit)) (now (cycles .exit))
-        ≡ pipeDone (clocks (coreOf (pipeline .settings)) (pipedOf pipeline (now (memory .entry))) budget) (now (addresses .entry)) (now (cycles .entry)) ⌝ }
+    ensures { λ r. ⌜ pipeAnswer 0 r (lent (now (memory .exit))) (now (addresses .exit)) (now (cycles .exit))
+        ≡ pipeDone (clocks (coreOf (pipeline .settings)) (pipedOf pipeline (lent (now (memory .entry)))) budget) (now (addresses .entry)) (now (cycles .entry)) ⌝ }
 {
     let settings = pipeline.settings;
     let first = pipeline.retired;

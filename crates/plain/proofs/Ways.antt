@@ -17,7 +17,7 @@ use Rattle.machine.specs.declared.Executed.{Executed}
 use Rattle.machine.specs.declared.Accessed.{Accessed}
 use Rattle.machine.specs.declared.Machine.{Machine}
 use Rattle.machine.specs.Types.{isBad}
-use Rattle.machine.specs.Memory.{Memory, value, written}
+use Rattle.machine.specs.Memory.{Memory, size, value, written}
 use Rattle.machine.specs.Fetch.{fetch}
 use Rattle.machine.specs.Stages.{sourceA, sourceB, decode, execute, access, newCodes, newMemory, newRegisters, nextAddress, resultTarget, loadedTarget}
 use Rattle.machine.specs.Plain.{Plain, plainOf, isStopped, fetched, decoded, executed, accessed, performed, stoppedBy, step, steps}
@@ -76,7 +76,7 @@ pub record Goes (k : Machine) (m : Memory) (budget : ℕ) (l : List ℕ) (s : Ma
   pub logged : length (steps (plainOf k m) n .log) ≡ n
   pub counted : s .count + budget ≤ plainLimit + n
   pub within : n ≤ budget
-  pub memory-long : length m′ ≡ length m
+  pub memory-long : size m′ ≡ size m
   pub log-long : length l′ ≡ length l
 
 pub goes-first : (k : Machine) (m : Memory) (budget : ℕ) (l : List ℕ) → k .count + budget ≤ plainLimit → Goes k m budget l k m l 0
@@ -110,7 +110,7 @@ module _ (k : Machine) (m : Memory) (budget : ℕ) (l : List ℕ) (s : Machine) 
   unfolding now
   next-log h = step-logs now (runs-now h) ∙ ap (λ (x : Machine). now .log ++ x .address ∷ []) (sym (g .so-far .machine-is))
 
-  pub goes-on : (b : Bool) (s₂ : Machine) (m₂ : Memory) (l₂ : List ℕ) → n < budget → b ≡ isBad (s .status) → not b ≡ true → length m₂ ≡ length m₁
+  pub goes-on : (b : Bool) (s₂ : Machine) (m₂ : Memory) (l₂ : List ℕ) → n < budget → b ≡ isBad (s .status) → not b ≡ true → size m₂ ≡ size m₁
       → l₂ ≡ set l₁ n (s .address)
       → (s₂ ≡ step (plainOf s m₁) .machine) × (m₂ ≡ step (plainOf s m₁) .memory) → Goes k m budget l s₂ m₂ l₂ (n + 1)
   unfolding now steps
@@ -197,7 +197,7 @@ within-limit size count budget n short h z =
     let q = failed (budgetRefused plainLimit count budget) 2 _ (p .1) in
     ltb-false plainLimit (count + budget) (neither (eqb budget 0) (ltb plainLimit (count + budget)) (q .0) .1)
 
-module _ (logs : List ℕ) (k : Machine) (m : Memory) (budget : ℕ) (log : List ℕ) (n : ℕ) (h : n ≡ plainRefusal (length m) (k .count) budget logs) where
+module _ (logs : List ℕ) (k : Machine) (m : Memory) (budget : ℕ) (log : List ℕ) (n : ℕ) (h : n ≡ plainRefusal (size m) (k .count) budget logs) where
   pub refuses : (n ≡ 0 → ⊥) → plainAnswer n k m log ≡ plainBy logs k m budget log
   unfolding plainBy
   refuses z = cc (ne-eqb n 0 z)
@@ -207,27 +207,27 @@ module _ (logs : List ℕ) (k : Machine) (m : Memory) (budget : ℕ) (log : List
   ends z r m′ l′ e = cc (z, h, e .machine-is, e .memory-is, e .log-is)
 
 pub run-refuses : (k : Machine) (m : Memory) (budget : ℕ) (log : List ℕ) (n : ℕ)
-    → n ≡ lowest ((1, sizeRefused (length m)) ∷ (3, budgetRefused plainLimit (k .count) budget) ∷ (4, ltb (length log) budget) ∷ []) → (n ≡ 0 → ⊥)
+    → n ≡ lowest ((1, sizeRefused (size m)) ∷ (3, budgetRefused plainLimit (k .count) budget) ∷ (4, ltb (length log) budget) ∷ []) → (n ≡ 0 → ⊥)
     → plainAnswer n k m log ≡ plainRun k m budget log
 unfolding plainRun
-run-refuses k m budget log n h z = refuses (length log ∷ []) k m budget log n (one-log (length m) (k .count) budget (length log) n h) z
+run-refuses k m budget log n h z = refuses (length log ∷ []) k m budget log n (one-log (size m) (k .count) budget (length log) n h) z
 
 pub run-ends : (k : Machine) (m : Memory) (budget : ℕ) (log : List ℕ) (n : ℕ)
-    → n ≡ lowest ((1, sizeRefused (length m)) ∷ (3, budgetRefused plainLimit (k .count) budget) ∷ (4, ltb (length log) budget) ∷ []) → n ≡ 0
+    → n ≡ lowest ((1, sizeRefused (size m)) ∷ (3, budgetRefused plainLimit (k .count) budget) ∷ (4, ltb (length log) budget) ∷ []) → n ≡ 0
     → (r : Machine) (m′ : Memory) (l′ : List ℕ) → RunsTo k m budget log r m′ l′ → plainAnswer 0 r m′ l′ ≡ plainRun k m budget log
 unfolding plainRun
-run-ends k m budget log n h z = ends (length log ∷ []) k m budget log n (one-log (length m) (k .count) budget (length log) n h) z
+run-ends k m budget log n h z = ends (length log ∷ []) k m budget log n (one-log (size m) (k .count) budget (length log) n h) z
 
 pub step-refuses : (k : Machine) (m : Memory) (n : ℕ)
-    → n ≡ lowest ((1, sizeRefused (length m)) ∷ (3, budgetRefused plainLimit (k .count) 1) ∷ (4, false) ∷ []) → (n ≡ 0 → ⊥)
+    → n ≡ lowest ((1, sizeRefused (size m)) ∷ (3, budgetRefused plainLimit (k .count) 1) ∷ (4, false) ∷ []) → (n ≡ 0 → ⊥)
     → plainAnswer n k m [] ≡ plainStep k m
 unfolding plainStep
-step-refuses k m n h z = refuses [] k m 1 [] n (no-log (length m) (k .count) 1 n h) z
+step-refuses k m n h z = refuses [] k m 1 [] n (no-log (size m) (k .count) 1 n h) z
 
 pub step-ends : (k : Machine) (m : Memory) (n : ℕ)
-    → n ≡ lowest ((1, sizeRefused (length m)) ∷ (3, budgetRefused plainLimit (k .count) 1) ∷ (4, false) ∷ []) → n ≡ 0
+    → n ≡ lowest ((1, sizeRefused (size m)) ∷ (3, budgetRefused plainLimit (k .count) 1) ∷ (4, false) ∷ []) → n ≡ 0
     → (own : List ℕ) (r : Machine) (m′ : Memory) (own′ : List ℕ) → RunsTo k m 1 own r m′ own′ → plainAnswer 0 r m′ [] ≡ plainStep k m
 unfolding plainStep
 step-ends k m n h z own r m′ own′ e =
-    ends [] k m 1 [] n (no-log (length m) (k .count) 1 n h) z r m′ []
+    ends [] k m 1 [] n (no-log (size m) (k .count) 1 n h) z r m′ []
     (record { machine-is = e .machine-is; memory-is = e .memory-is; log-is = sym (laid-none _) })

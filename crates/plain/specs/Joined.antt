@@ -4,7 +4,7 @@ use mathlib.Core.List.{List, [], _∷_, _++_}
 use Prim.Native.Nat.{ℕ, zero, suc, _+_}
 use lib.ListN.{length, take, drop}
 use Rattle.machine.specs.declared.Machine.{Machine}
-use Rattle.machine.specs.Memory.{Memory}
+use Rattle.machine.specs.Memory.{Memory, size}
 use Rattle.machine.specs.Plain.{Plain, plainOf, step, steps}
 use Rattle.machine.specs.Runs.{laid, plainRefusal, PlainAnswer, plainAnswer, plainDone, plainBy, plainRun}
 use Rattle.answers.specs.Logs.{laid-joined}
@@ -26,7 +26,7 @@ goingOn k m a b log =
 done : (logs : List ℕ) (k : Machine) (m : Memory) (a : ℕ) (log : List ℕ) → plainBy logs k m a log .number ≡ 0
     → plainBy logs k m a log ≡ plainDone (steps (plainOf k m) a) log
 unfolding plainBy
-done logs k m a log h = ran (λ o. o .number) (plainRefusal (length m) (k .count) a logs) _ _ refl h
+done logs k m a log h = ran (λ o. o .number) (plainRefusal (size m) (k .count) a logs) _ _ refl h
 
 done-run : (k : Machine) (m : Memory) (a : ℕ) (log : List ℕ) → plainRun k m a log .number ≡ 0 → plainRun k m a log ≡ plainDone (steps (plainOf k m) a) log
 unfolding plainRun

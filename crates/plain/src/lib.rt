@@ -26,7 +26,7 @@ ghost use mathlib.Core.Bool.{false};
 ghost use mathlib.Core.List.{[], _∷_};
 ghost use Prim.Native.Nat.{_+_, _≤_, _<_};
 ghost use Rattle.machine.specs.Types.{isBad};
-ghost use Rattle.machine.specs.Memory.{value as valueOf};
+ghost use Rattle.machine.specs.Memory.{lent, value as valueOf};
 ghost use Rattle.machine.specs.Stages.{decode};
 ghost use Rattle.machine.specs.Plain.{plainStart, plainOf, step as stepOf};
 ghost use Rattle.machine.specs.Runs.{lowest, sizeRefused, budgetRefused, plainLimit, plainAnswer, plainRun, plainStep};
@@ -124,8 +124,8 @@ fn after_stop(m: Machine, status: Status) -> Machine
 // One instruction of a machine that runs.
 fn advance(m: Machine, memory: &mut [u8]) -> Machine
     requires { ⌜ (m .count < plainLimit) × (isBad (m .status) ≡ false) ⌝ }
-    ensures { λ r. ⌜ (r ≡ stepOf (plainOf m (now (memory .entry))) .machine)
-        × (now (memory .exit) ≡ stepOf (plainOf m (now (memory .entry))) .memory) ⌝ }
+    ensures { λ r. ⌜ (r ≡ stepOf (plainOf m (lent (now (memory .entry)))) .machine)
+        × (lent (now (memory .exit)) ≡ stepOf (plainOf m (lent (now (memory .entry)))) .memory) ⌝ }
 {
     let i = instruction_at(memory, m.address);
     let x = decoded(m, i);
@@ -144,7 +144,7 @@ fn advance(m: Machine, memory: &mut [u8]) -> Machine
 // The loop of both entries.
 fn run_on(m: Machine, memory: &mut [u8], budget: u64, log: &mut [u64]) -> Machine
     requires { ⌜ m .count + budget ≤ plainLimit ⌝ }
-    ensures { λ r. ⌜ RunsTo m (now (memory .entry)) budget (now (log .entry)) r (now (memory .exit)) (now (log .exit)) ⌝ }
+    ensures { λ r. ⌜ RunsTo m (lent (now (memory .entry))) budget (now (log .entry)) r (lent (now (memory .exit))) (now (log .exit)) ⌝ }
 {
     let mut s = m;
     let mut done: u64 = 0;
@@ -174,8 +174,8 @@ fn refusal(size: usize, count: u64, budget: u64, short: bool) -> u64
 
 // A run with an instruction budget and a lent log of addresses.
 pub fn run(machine: Machine, memory: &mut [u8], budget: u64, log: &mut [u64]) -> Answer
-    ensures { λ r. ⌜ plainAnswer (r .number) (r .machine) (now (memory .exit)) (now (log .exit))
-        ≡ plainRun machine (now (memory .entry)) budget (now (log .entry)) ⌝ }
+    ensures { λ r. ⌜ plainAnswer (r .number) (r .machine) (lent (now (memory .exit))) (now (log .exit))
+        ≡ plainRun machine (lent (now (memory .entry))) budget (now (log .entry)) ⌝ }
 {
     let number = refusal(
         memory.len(),
@@ -195,7 +195,7 @@ pub fn run(machine: Machine, memory: &mut [u8], budget: u64, log: &mut [u64]) ->
 
 // A step is a run of 1 without a log.
 pub fn step(machine: Machine, memory: &mut [u8]) -> Answer
-    ensures { λ r. ⌜ plainAnswer (r .number) (r .machine) (now (memory .exit)) [] ≡ plainStep machine (now (memory .entry)) ⌝ }
+    ensures { λ r. ⌜ plainAnswer (r .number) (r .machine) (lent (now (memory .exit))) [] ≡ plainStep machine (lent (now (memory .entry))) ⌝ }
 {
     let number = refusal(memory.len(), machine.count, 1, false);
     if number != 0 {

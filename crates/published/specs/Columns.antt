@@ -4,11 +4,10 @@ use Prim.Native.Nat.{ℕ, _+_, _/_, _%_, _<_, _≤_}
 use mathlib.Core.Path.{_≡_, refl, ap, _∙_}
 use mathlib.Core.Bool.{Bool, true, false, cond, not, _&&_, _||_}
 use mathlib.Core.List.{[], _∷_, _++_}
-use lib.ListN.{length}
 use lib.Seq.{set-set}
 use Rattle.machine.specs.Types.{isBad}
 use Rattle.machine.specs.Words.{sum, difference, placed}
-use Rattle.machine.specs.Memory.{Memory, Registers, inside, load, store, value, written}
+use Rattle.machine.specs.Memory.{Memory, lent, size, Registers, inside, load, store, value, written}
 use Rattle.machine.specs.Table.{table, rowOf, is}
 use Rattle.machine.specs.Fetch.{half, stopping}
 use Rattle.machine.specs.Stages
@@ -212,7 +211,7 @@ pub loaded : (m : Memory) (a : ℕ) → inside m a ≡ true → load m a ≡ M�
 unfolding load
 loaded m a h = rw h
 
-pub stored : (m : Memory) (a v : ℕ) → inside m a ≡ true → store m a v ≡ placed 8 m a v
+pub stored : (m : Memory) (a v : ℕ) → inside m a ≡ true → store m a v ≡ lent (placed 8 (m .bytes) a v)
 unfolding store
 stored m a v h = rw h
 
@@ -223,7 +222,7 @@ unfolding step fetched decoded executed accessed stoppedBy access accessStatus e
 stops s bad r h e = rw (r, fetch-bad (s .memory) (PC s) bad h e, h)
 
 -- halt, 0x00: HLT
-pub halt : (s : Plain) → isStopped s ≡ false → PC s < length (s .memory) → M₁ (s .memory) (PC s) ≡ 0 → step s ≡ stopped s hlt
+pub halt : (s : Plain) → isStopped s ≡ false → PC s < size (s .memory) → M₁ (s .memory) (PC s) ≡ 0 → step s ≡ stopped s hlt
 unfolding fetched isBad
 halt s r h e = stops s hlt r refl (fetch-halt (s .memory) (PC s) h e)
 

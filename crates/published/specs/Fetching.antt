@@ -11,7 +11,7 @@ use lib.ListN.{length, length-take, length-drop, getD, take, drop}
 use lib.Seq.{getD-take, getD-drop, drop-cons}
 use Rattle.machine.specs.Types.{isBad}
 use Rattle.machine.specs.Words.{sum, number}
-use Rattle.machine.specs.Memory.{Memory}
+use Rattle.machine.specs.Memory.{Memory, size}
 use Rattle.machine.specs.Table.{rowOf, table, RegisterByte, noByte, bothNamed, onlyB, onlyA}
 use Rattle.machine.specs.Fetch.{sizeAt, ownBytes, stopping, checked, half, constantIn, parsed, fetch, halvesFit}
 use Rattle.published.specs.Names.{Status, aok, hlt, Instruction}
@@ -19,14 +19,14 @@ use Rattle.published.specs.Lengths.{length-rule, no-functions, two, part
 
 -- M₁[a], a byte, and M₈[a], the eight bytes from a on
 abbrev pub M₁ : Memory → ℕ → ℕ
-M₁ m a = getD m a 0
+M₁ m a = getD (m .bytes) a 0
 
 abbrev pub M₈ : Memory → ℕ → ℕ
-M₈ m a = number 8 m a
+M₈ m a = number 8 (m .bytes) a
 
 -- the constant of an instruction at a that is so long: its last eight bytes
 abbrev constantAt : Memory → ℕ → ℕ → ℕ
-constantAt m a size = cond (ltb 8 size) (M₈ m (a + (size - 8))) 0
+constantAt m a n = cond (ltb 8 n) (M₈ m (a + (n - 8))) 0
 
 -- the instruction at a with this code: icode:ifun ← M₁[PC], rA:rB ← M₁[PC+1], valC ← its last eight bytes, valP ← PC + its length
 unfoldable pub aokAt : Memory → ℕ → ℕ → Instruction
@@ -44,10 +44,10 @@ aokAt m a code =
     }
 
 -- the own bytes of an instruction are those of memory
-own : (m : Memory) (a n j : ℕ) → j < n → getD (take n (drop a m)) j 0 ≡ M₁ m (a + j)
+own : (m : Memory) (a n j : ℕ) → j < n → getD (take n (drop a (m .bytes))) j 0 ≡ M₁ m (a + j)
 own m a n j h = rw (getD-take, getD-drop)
 
-own-number : (k : ℕ) (m : Memory) (a n j : ℕ) → j + k ≤ n → number k (take n (drop a m)) j ≡ number k m (a + j)
+own-number : (k : ℕ) (m : Memory) (a n j : ℕ) → j + k ≤ n → number k (take n (drop a (m .bytes))) j ≡ number k (m .bytes) (a + j)
 unfolding number
 own-number zero m a n j h = refl
 own-number (suc k) m a n j h = rw (own m a n j (omega arith), own-number k m a n (j + 1) (omega arith), add-assoc)
@@ -69,32 +69,32 @@ alike false c t f = f refl
 
 -- the own bytes are none, or fewer than the length, exactly when memory ends before
 module _ (m : Memory) (a n : ℕ) (some : 0 < n) where
-  none-own : eqb (length (take n (drop a m))) 0 ≡ leb (length m) a
+  none-own : eqb (length (take n (drop a (m .bytes)))) 0 ≡ leb (size m) a
   none-own =
-      let k = min n (length m - a) in
+      let k = min n (size m - a) in
       simp (length-take, length-drop)
-      (alike (leb (length m) a) _ (λ e. eq-eqb k 0 (omega (arith, leb-true (length m) a e))) (λ e. ne-eqb k 0 (omega (arith, leb-false (length m) a e))))
+      (alike (leb (size m) a) _ (λ e. eq-eqb k 0 (omega (arith, leb-true (size m) a e))) (λ e. ne-eqb k 0 (omega (arith, leb-false (size m) a e))))
 
-  few-own : ltb (length (take n (drop a m))) n ≡ ltb (length m) (a + n)
+  few-own : ltb (length (take n (drop a (m .bytes)))) n ≡ ltb (size m) (a + n)
   few-own =
-      let k = min n (length m - a) in
+      let k = min n (size m - a) in
       simp (length-take, length-drop)
-      (alike (ltb (length m) (a + n)) _ (λ e. lt-ltb k n (omega (arith, ltb-true (length m) (a + n) e)))
-      (λ e. le-ltb k n (omega (arith, ltb-false (length m) (a + n) e))))
+      (alike (ltb (size m) (a + n)) _ (λ e. lt-ltb k n (omega (arith, ltb-true (size m) (a + n) e)))
+      (λ e. le-ltb k n (omega (arith, ltb-false (size m) (a + n) e))))
 
 -- THE FETCH: its checks in order, on memory itself, and the instruction that is then there
 pub fetch-is : (m : Memory) (a : ℕ)
     → let code = M₁ m a / 16 in
     let i = aokAt m a code in
-    fetch m a ≡ checked (leb (length m) a) (leb (rowOf code .functions) (i .function)) (ltb (length m) (a + rowOf code .size))
+    fetch m a ≡ checked (leb (size m) a) (leb (rowOf code .functions) (i .function)) (ltb (size m) (a + rowOf code .size))
     (not (halvesFit (rowOf code .byte) (i .ra) (i .rb))) (eqb code 0) i
 unfolding fetch parsed ownBytes sizeAt aokAt constantIn parts
 fetch-is m a =
     let row = rowOf (M₁ m a / 16) in
     let n = row .size in
     let rule : n ≡ parts row = length-rule (M₁ m a / 16) in
-    let first : getD (take n (drop a m)) 0 0 ≡ M₁ m a = own m a n 0 (omega arith) ∙ ap (M₁ m) (add-zero a) in
-    let second : T (hasRegisterByte (row .byte)) → getD (take n (drop a m)) 1 0 ≡ M₁ m (a + 1) = λ t. own m a n 1 (rw rule (two row t)) in
+    let first : getD (take n (drop a (m .bytes))) 0 0 ≡ M₁ m a = own m a n 0 (omega arith) ∙ ap (M₁ m) (add-zero a) in
+    let second : T (hasRegisterByte (row .byte)) → getD (take n (drop a (m .bytes))) 1 0 ≡ M₁ m (a + 1) = λ t. own m a n 1 (rw rule (two row t)) in
     rw first
     (cc (
       none-own m a n (omega arith),
@@ -144,6 +144,7 @@ unfolding fetch parsed
 fetch-bad m a bad b e = checked-bad _ _ _ _ _ _ bad refl b e
 
 -- "Only then is 0x00 HLT."
-pub fetch-halt : (m : Memory) (a : ℕ) → a < length m → M₁ m a ≡ 0 → fetch m a .status ≡ hlt
+pub fetch-halt : (m : Memory) (a : ℕ) → a < size m → M₁ m a ≡ 0 → fetch m a .status ≡ hlt
 unfolding fetch parsed ownBytes sizeAt checked stopping halvesFit rowOf table
-fetch-halt m a h e = ap (λ b. parsed a b .status) (ap (λ b. take (rowOf (b / 16) .size) (drop a m)) e ∙ ap (take 1) (drop-cons m a 0 h) ∙ ap (_∷ []) e)
+fetch-halt m a h e =
+    ap (λ b. parsed a b .status) (ap (λ b. take (rowOf (b / 16) .size) (drop a (m .bytes))) e ∙ ap (take 1) (drop-cons (m .bytes) a 0 h) ∙ ap (_∷ []) e)

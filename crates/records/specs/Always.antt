@@ -6,7 +6,7 @@ use mathlib.Core.Path.{_≡_, refl, ap}
 use lib.Dec.{eqb}
 use lib.ListN.{length, take, drop}
 use Rattle.machine.specs.Types.{isBad}
-use Rattle.machine.specs.Memory.{Memory, Registers, inside, load, store, value, written}
+use Rattle.machine.specs.Memory.{Memory, size, Registers, inside, load, store, value, written}
 use Rattle.clocked.specs.Prediction.{Core, meets}
 use Rattle.clocked.specs.Pipeline.{Piped, clock, clockBy, stoppedIn}
 use Rattle.machine.specs.Runs.{plainRefusal, plainBy, plainAnswer, laid}
@@ -15,13 +15,13 @@ use Rattle.records.specs.Names.{Accessed, Machine, Pipeline, inW}
 
 -- "number, the record as given, nothing changed", by whatever number it is refused
 pub plain-unchanged : (logs : List ℕ) (k : Machine) (m : Memory) (budget : ℕ) (log : List ℕ)
-    → let n = plainRefusal (length m) (k .count) budget logs in
+    → let n = plainRefusal (size m) (k .count) budget logs in
     eqb n 0 ≡ false → plainBy logs k m budget log ≡ plainAnswer n k m log
 unfolding plainBy
 plain-unchanged logs k m budget log h = rw h
 
 pub pipe-unchanged : (logs : List ℕ) (k : Pipeline) (m : Memory) (budget : ℕ) (a y : List ℕ)
-    → let n = pipeRefusal k (length m) budget logs in
+    → let n = pipeRefusal k (size m) budget logs in
     eqb n 0 ≡ false → pipeBy logs k m budget a y ≡ pipeAnswer n k m a y
 unfolding pipeBy
 pipe-unchanged logs k m budget a y h = rw h

@@ -3,13 +3,12 @@ use Prim.Native.Nat.{ℕ}
 use Prim.Native.String.{String}
 use mathlib.Core.Bool.{true, false}
 use mathlib.Core.List.{List, [], _∷_}
-use lib.ListN.{replicate}
 use Rattle.machine.specs.Memory.{Memory}
 use Rattle.clocked.specs.Prediction.{asIn01}
 use Rattle.clocked.specs.Pipeline.{pipeStart}
 use Rattle.clocked.specs.PipeRuns.{PipeAnswer, pipeAnswer}
 use Rattle.records.specs.Names.{Instruction, Status, aok, hlt, adr, ins}
-use Rattle.records.specs.Given.{Change, image, given, coded, registers, codes, stopped, counts, keeps, F, D, E, M, W, nop, cmov, irmovq}
+use Rattle.records.specs.Given.{Change, image, filled, empty, given, coded, registers, codes, stopped, counts, keeps, F, D, E, M, W, nop, cmov, irmovq}
 use Rattle.records.specs.Given.{rmmovq, mrmovq, operation, jump, call, ret, pushq, popq, fetchedAs, instruction}
 use Rattle.records.specs.Looks.{Row, answers, clocked, predicted, register, codesNow, status, last, retired, cycles, loaduse}
 use Rattle.records.specs.Looks.{mispredict, returned, byte, d, e, m, w, kept, bubble, address, fetchStatus, code}
@@ -17,7 +16,7 @@ use Rattle.records.specs.Looks.{statusW, keptHeld}
 
 -- sixty nops
 abbrev nops : Memory
-nops = replicate 60 0x10
+nops = filled 60 0x10
 
 -- a clock over nops with 30 in F: where it fetches
 abbrev fetchesFrom : String → List Change → (address : ℕ) → Row
@@ -50,7 +49,7 @@ busy t i =
 unfoldable pub rowsOfClock : List Row
 rowsOfClock =
     -- "At a fresh start F holds the start address and the rest are bubbles." "Last address is that of the last retired instruction, or the start address."
-    answers {A = PipeAnswer} "R8.3 At a fresh start" (pipeAnswer 0 (pipeStart asIn01 (given ((14, 9) ∷ [])) (coded 5) 77) [] [] [])
+    answers {A = PipeAnswer} "R8.3 At a fresh start" (pipeAnswer 0 (pipeStart asIn01 (given ((14, 9) ∷ [])) (coded 5) 77) empty [] [])
     ((predicted, 77) ∷ (d address, bubble) ∷ (e address, bubble) ∷ (m address, bubble) ∷ (w address, bubble) ∷ (register 14, 9) ∷ (codesNow, 5)
     ∷ (status, 1) ∷ (last, 77) ∷ (retired, 0) ∷ (cycles, 0) ∷ (loaduse, 0) ∷ (mispredict, 0) ∷ (returned, 0) ∷ (kept address, bubble) ∷ [])
     -- "Fetch address: if M holds a jump whose condition was false, that jump's next address; else if W holds ret, the word it read; else the predicted one."

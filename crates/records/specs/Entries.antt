@@ -10,7 +10,7 @@ use Rattle.clocked.specs.Premise.{writesByte, hasByte}
 use Rattle.machine.specs.Runs.{PlainAnswer, plainAnswer, plainRefusal as plainRefuses, plainStep}
 use Rattle.clocked.specs.PipeRuns.{pipeRefusal, pipeRunUnlogged, pipeClock}
 use Rattle.records.specs.Names.{Instruction, Machine, Status, aok, hlt, adr, ins}
-use Rattle.records.specs.Given.{Change, image, given, coded, fresh, with, stopped, counts, keeps, D, E, M, W, nop, cmov, operation, jump}
+use Rattle.records.specs.Given.{Change, image, filled, empty, given, coded, fresh, with, stopped, counts, keeps, D, E, M, W, nop, cmov, operation, jump}
 use Rattle.records.specs.Given.{popq, unknown, fetchedAs, instruction}
 use Rattle.records.specs.Looks.{Row, answers, numbers, ran, performed, refusal, status, last, retired, cycles, predicted, d, address}
 use Rattle.records.specs.Looks.{addressLog, cycleLog, plainRefusal, plainRegister, plainCodes, plainAddress, plainStatus, plainLast}
@@ -73,7 +73,7 @@ rowsOfEntries =
     ((plainRefusal, 0) ∷ (plainCount, 3) ∷ (plainLog 0, 0) ∷ (plainLog 1, 1) ∷ (plainLog 2, 2) ∷ (plainLog 3, 9) ∷ (plainLog 5, 9) ∷ [])
     ∷ performed "R13.3 plain log: the k-th of the call" (machine 1 aok 0 7) short 1 (nines 2) ((plainCount, 8) ∷ (plainLog 0, 1) ∷ (plainLog 1, 9) ∷ [])
     -- the plain engine's books
-    ∷ answers {A = PlainAnswer} "R2.8 plain: at a fresh start" (plainAnswer 0 (plainStart (given ((3, 6) ∷ [])) (coded 7) 77) [] [])
+    ∷ answers {A = PlainAnswer} "R2.8 plain: at a fresh start" (plainAnswer 0 (plainStart (given ((3, 6) ∷ [])) (coded 7) 77) empty [])
     ((plainAddress, 77) ∷ (plainLast, 77) ∷ (plainCount, 0) ∷ (plainStatus, 1) ∷ (plainCodes, 7) ∷ (plainRegister 3, 6) ∷ [])
     ∷ performed "R7.3 plain: the stopping one counts, is last, and the program address stays" (machine 2 aok 1 7) short 3 (nines 3)
     ((plainStatus, 2) ∷ (plainAddress, 2) ∷ (plainLast, 2) ∷ (plainCount, 8) ∷ (plainCodes, 7) ∷ (plainRegister 3, 6) ∷ (plainLog 0, 2) ∷ (plainLog 1, 9) ∷ [])
@@ -91,11 +91,11 @@ rowsOfEntries =
     ∷ answers "R13.4 A clock is refused as a run is" (pipeClock (with (counts 0 262145 0 0 0 ∷ [])) short)
     ((refusal, 3) ∷ (cycles, 262145) ∷ (predicted, 0) ∷ [])
     ∷ answers "R14.4 a clock can meet 5" (pipeClock (with (D (unknown 0) ∷ [])) short) ((refusal, 5) ∷ (cycles, 0) ∷ (d address, 0) ∷ [])
-    ∷ answers "R14.4 a clock can meet 1" (pipeClock (with []) []) ((refusal, 1) ∷ (cycles, 0) ∷ [])
-    ∷ answers "R14.4 a step can meet 1" (plainStep (machine 1 aok 0 7) []) ((plainRefusal, 1) ∷ (plainCount, 7) ∷ [])
+    ∷ answers "R14.4 a clock can meet 1" (pipeClock (with []) empty) ((refusal, 1) ∷ (cycles, 0) ∷ [])
+    ∷ answers "R14.4 a step can meet 1" (plainStep (machine 1 aok 0 7) empty) ((plainRefusal, 1) ∷ (plainCount, 7) ∷ [])
     -- refusals: each of its own, at both ends
-    ∷ refuses "R14.1 1: N is 0" 1 [] [] 1 (nines 1) (nines 1)
-    ∷ refuses "R14.1 N is 1" 0 [] (nines 1) 1 (nines 1) (nines 1)
+    ∷ refuses "R14.1 1: N is 0" 1 [] empty 1 (nines 1) (nines 1)
+    ∷ refuses "R14.1 N is 1" 0 [] (filled 1 9) 1 (nines 1) (nines 1)
     ∷ numbers "R14.1 1: N is above 4,096" (pipeRefusal fresh 4096 1 [] ∷ pipeRefusal fresh 4097 1 [] ∷ []) (0 ∷ 1 ∷ [])
     ∷ numbers "R14.1 plain: 1: N is above 4,096" (plainRefuses 4096 0 1 [] ∷ plainRefuses 4097 0 1 [] ∷ []) (0 ∷ 1 ∷ [])
     ∷ refuses "R14.1 3: budget 0" 3 [] short 0 [] []
@@ -105,12 +105,12 @@ rowsOfEntries =
     ∷ refuses "R14.1 4: the second log shorter than the budget" 4 [] short 2 (nines 2) (nines 1)
     ∷ refuses "R13.3 logs as long as the budget" 0 [] short 2 (nines 2) (nines 2)
     -- "Lowest number wins": with all wrong at first, and the lowest put right each time
-    ∷ refuses "R14.2 1 before 3, 4 and 5" 1 (D (unknown 0) ∷ counts 0 262145 0 0 0 ∷ []) [] 1 [] []
+    ∷ refuses "R14.2 1 before 3, 4 and 5" 1 (D (unknown 0) ∷ counts 0 262145 0 0 0 ∷ []) empty 1 [] []
     ∷ refuses "R14.2 3 before 4 and 5" 3 (D (unknown 0) ∷ counts 0 262145 0 0 0 ∷ []) short 1 [] []
     ∷ refuses "R14.2 4 before 5" 4 (D (unknown 0) ∷ []) short 1 [] []
     ∷ refuses "R14.2 5 alone" 5 (D (unknown 0) ∷ []) short 1 (nines 1) (nines 1)
     ∷ refuses "R14.2 5, of a stopped machine too" 5 (stopped hlt 0 ∷ D (unknown 0) ∷ []) short 1 (nines 1) (nines 1)
-    ∷ performed "R14.2 plain: 1 before 3 and 4" (machine 0 aok 0 65536) [] 1 [] ((plainRefusal, 1) ∷ [])
+    ∷ performed "R14.2 plain: 1 before 3 and 4" (machine 0 aok 0 65536) empty 1 [] ((plainRefusal, 1) ∷ [])
     ∷ performed "R14.2 plain: 3 before 4" (machine 0 aok 0 65536) short 1 [] ((plainRefusal, 3) ∷ [])
     ∷ performed "R14.2 plain: 4 alone" (machine 0 aok 0 65535) short 1 [] ((plainRefusal, 4) ∷ [])
     ∷ performed "R14.1 plain: a log as long as the budget" (machine 0 aok 0 65534) short 2 (nines 2) ((plainRefusal, 0) ∷ (plainCount, 65536) ∷ [])

@@ -4,7 +4,7 @@ use mathlib.Core.Bool.{Bool}
 use mathlib.Core.List.{List, [], _∷_, _++_}
 use lib.Dec.{eqb}
 use lib.ListN.{set, replicate}
-use Rattle.machine.specs.Memory.{Memory, Registers}
+use Rattle.machine.specs.Memory.{Memory, lent, Registers}
 use Rattle.clocked.specs.Prediction.{asIn01}
 use Rattle.clocked.specs.Pipeline.{pipeStart}
 use Rattle.records.specs.Names.{Status, aok, Codes, Instruction, StageD, inD, StageE, inE, StageM, inM, StageW, inW, Kept, lastKept, Kinds, Pipeline}
@@ -17,7 +17,15 @@ spelled (suc k) x = x / 256 ^ k % 256 ∷ spelled k x
 
 -- memory of size bytes: the first ones as they are written, then zeros
 abbrev pub image : (size bytes written : ℕ) → Memory
-image n k x = spelled k x ++ replicate (n - k) 0
+image n k x = lent (spelled k x ++ replicate (n - k) 0)
+
+-- memory of size bytes that are all the same
+abbrev pub filled : (size byte : ℕ) → Memory
+filled n x = lent (replicate n x)
+
+-- memory of no bytes
+abbrev pub empty : Memory
+empty = filled 0 0
 
 -- REGISTERS AND CODES
 -- each register is 0 but those given

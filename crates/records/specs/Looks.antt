@@ -54,10 +54,10 @@ abbrev pub returned : PipeAnswer → ℕ
 returned r = r .pipeline .kinds .returned
 
 abbrev pub byte : ℕ → PipeAnswer → ℕ
-byte a r = getD (r .memory) a 0
+byte a r = getD (r .memory .bytes) a 0
 
 abbrev pub word : ℕ → PipeAnswer → ℕ
-word a r = number 8 (r .memory) a
+word a r = number 8 (r .memory .bytes) a
 
 -- the place of either log
 abbrev pub addressLog : ℕ → PipeAnswer → ℕ

@@ -7,6 +7,7 @@ use native.Mathlib.Omega.{arith}
 use lib.ListN.{length, drop, replicate}
 use borrow.Author.Tests.{eq-eqb, ne-eqb}
 use Rattle.clocked.specs.declared.Pipeline.{Pipeline}
+use Rattle.machine.specs.Memory.{lent}
 use Rattle.clocked.specs.Prediction.{asIn01}
 use Rattle.clocked.specs.Pipeline.{pipeStart}
 use Rattle.clocked.specs.PipeRuns.{PipeAnswer, pipeAnswer, pipeRunUnlogged}
@@ -39,13 +40,13 @@ module _ {a b c : List ℕ} {i r : ℕ} (n : ℕ) (p : Pipeline) (room : length 
 
 pub replays : (image image′ out out′ : List ℕ) (n r : ℕ) (fresh p : Pipeline)
     → fresh ≡ pipeStart asIn01 (replicate 15 0) (record { zf = true; sf = false; of = false }) 0
-    → pipeAnswer n p image′ [] [] ≡ pipeRunUnlogged fresh image 4000 → _≡_ {A = ℕ × List ℕ} (r, out′) (written (report n p) out)
+    → pipeAnswer n p (lent image′) [] [] ≡ pipeRunUnlogged fresh (lent image) 4000 → _≡_ {A = ℕ × List ℕ} (r, out′) (written (report n p) out)
     → _≡_ {A = ℕ × List ℕ × List ℕ} (r, out′, image′) (replayed image out)
 unfolding imageRun reported replayed
 replays image image′ out out′ n r fresh p e f g =
     subst
     (λ (o : PipeAnswer).
     let t = report (o .number) (o .pipeline) in
-    _≡_ {A = ℕ × List ℕ × List ℕ} (r, out′, image′) (length t, t ++ drop (length t) out, o .memory))
-    (f ∙ ap (λ (k : Pipeline). pipeRunUnlogged k image 4000) e)
+    _≡_ {A = ℕ × List ℕ × List ℕ} (r, out′, image′) (length t, t ++ drop (length t) out, o .memory .bytes))
+    (f ∙ ap (λ (k : Pipeline). pipeRunUnlogged k (lent image) 4000) e)
     (ap (λ (x : ℕ × List ℕ). (x .0, x .1, image′)) g)

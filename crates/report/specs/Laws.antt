@@ -6,7 +6,6 @@ use Prim.Native.Nat.{ℕ, _≤_, _<_}
 use native.Mathlib.Omega.{arith}
 use lib.ListN.{length}
 use borrow.Author.Tests.{ne-eqb, lt-ltb}
-use Rattle.machine.specs.Memory.{Memory}
 use Rattle.clocked.specs.Charges.{noKinds}
 use Rattle.clocked.specs.Pipeline.{pipeStart}
 use Rattle.machine.specs.Runs.{sizeRefused, budgetRefused, logRefused}
@@ -20,7 +19,7 @@ use Rattle.report_lines.specs.Lines.{line}
 use Rattle.report.specs.Report.{report, imageRun, reported, replayed}
 
 -- an image is refused only for its size
-pub refused-by-size : (image : Memory) → imageRun image .number ≡ cond (sizeRefused (length image)) 1 0
+pub refused-by-size : (image : List ℕ) → imageRun image .number ≡ cond (sizeRefused (length image)) 1 0
 unfolding imageRun pipeRunUnlogged pipeBy pipeDone pipeRefusal lowest budgetRefused logRefused recordRefused countsRefused
     refusedInD refusedInE refusedInM refusedInW refusedKept pipeStart noKinds
 refused-by-size image = go (sizeRefused (length image)) refl
@@ -30,12 +29,12 @@ refused-by-size image = go (sizeRefused (length image)) refl
     go false e = rw e
 
 -- "Refused: `y86run 1` and `refused 1`", with a tab for each space
-pub refusal-written : (image : Memory) → sizeRefused (length image) ≡ true → reported image ≡ bytes "y86run\t1\nrefused\t1\n"
+pub refusal-written : (image : List ℕ) → sizeRefused (length image) ≡ true → reported image ≡ bytes "y86run\t1\nrefused\t1\n"
 unfolding reported report line digits decimal bytes
 refusal-written image h = rw (refused-by-size image, h)
 
 -- so of an image of more than 4,096 bytes, of which main reads 4,097
-pub too-long : (image : Memory) → 4096 < length image → reported image ≡ bytes "y86run\t1\nrefused\t1\n"
+pub too-long : (image : List ℕ) → 4096 < length image → reported image ≡ bytes "y86run\t1\nrefused\t1\n"
 unfolding sizeRefused
 too-long image h = refusal-written image (rw (ne-eqb (length image) 0 (λ e. omega arith), lt-ltb 4096 (length image) h))
 

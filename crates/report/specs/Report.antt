@@ -5,7 +5,7 @@ use mathlib.Core.List.{List, _++_}
 use lib.Dec.{eqb}
 use lib.ListN.{length, replicate, drop}
 use Rattle.clocked.specs.declared.Pipeline.{Pipeline}
-use Rattle.machine.specs.Memory.{Memory}
+use Rattle.machine.specs.Memory.{lent}
 use Rattle.clocked.specs.Prediction.{asIn01}
 use Rattle.clocked.specs.Pipeline.{pipeStart}
 use Rattle.clocked.specs.PipeRuns.{PipeAnswer, pipeRunUnlogged}
@@ -22,13 +22,13 @@ unfoldable pub report : ℕ → Pipeline → List ℕ
 report number p = line (bytes "y86run") (bytes "1") ++ cond (eqb number 0) (endLines p) (numberLine "refused" number)
 
 -- "registers 0, codes ZF=1, start 0, budget 4,000 cycles"
-unfoldable pub imageRun : Memory → PipeAnswer
-imageRun image = pipeRunUnlogged (pipeStart asIn01 (replicate 15 0) (record { zf = true; sf = false; of = false }) 0) image 4000
+unfoldable pub imageRun : List ℕ → PipeAnswer
+imageRun image = pipeRunUnlogged (pipeStart asIn01 (replicate 15 0) (record { zf = true; sf = false; of = false }) 0) (lent image) 4000
 
 -- the bytes that the program writes for the image that it read
-unfoldable pub reported : Memory → List ℕ
+unfoldable pub reported : List ℕ → List ℕ
 reported image = report (imageRun image .number) (imageRun image .pipeline)
 
 -- and what it has in hand then: how many bytes it hands over, the buffer that they stand in, and the image after the run
-unfoldable pub replayed : Memory → List ℕ → ℕ × List ℕ × Memory
-replayed image before = (length (reported image), reported image ++ drop (length (reported image)) before, imageRun image .memory)
+unfoldable pub replayed : List ℕ → List ℕ → ℕ × List ℕ × List ℕ
+replayed image before = (length (reported image), reported image ++ drop (length (reported image)) before, imageRun image .memory .bytes)

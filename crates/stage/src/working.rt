@@ -14,6 +14,7 @@ use isa::executing::new_codes;
 use machine::Codes;
 use machine::REGISTERS;
 ghost use mathlib.Core.Path.{_≡_};
+ghost use Rattle.machine.specs.Memory.{lent};
 ghost use Rattle.clocked.specs.Pipeline.{afterE, afterM, codesAfter, memoryAfter};
 ghost use Rattle.stage.specs.Forwarding.{kindM, writtenBy};
 
@@ -40,7 +41,7 @@ pub fn kind_m(m: StageM) -> u8
 // M's instruction after its access, which reads memory before the clock's write.
 pub fn after_m(kind: u8, m: StageM, memory: &[u8]) -> StageW
     requires { ⌜ kind ≡ kindM m ⌝ }
-    ensures { λ r. ⌜ r ≡ afterM m (now (memory .entry)) ⌝ }
+    ensures { λ r. ⌜ r ≡ afterM m (lent (now (memory .entry))) ⌝ }
 {
     match m {
         StageM::BubbleM => StageW::BubbleW,
@@ -60,7 +61,7 @@ pub fn codes_after(e: StageE, codes: Codes) -> Codes
 // The clock's write.
 pub fn memory_after(kind: u8, m: StageM, memory: &mut [u8])
     requires { ⌜ kind ≡ kindM m ⌝ }
-    ensures { λ _. ⌜ now (memory .exit) ≡ memoryAfter m (now (memory .entry)) ⌝ }
+    ensures { λ _. ⌜ lent (now (memory .exit)) ≡ memoryAfter m (lent (now (memory .entry))) ⌝ }
 {
     match m {
         StageM::BubbleM => {}

@@ -7,7 +7,7 @@ use native.Mathlib.Omega.{arith}
 use lib.ListN.{length}
 use Rattle.machine.specs.declared.Codes.{Codes}
 use Rattle.machine.specs.Types.{isBad, statusNumber, codesNumber}
-use Rattle.machine.specs.Memory.{Memory}
+use Rattle.machine.specs.Memory.{Memory, lent as lentMemory}
 use Rattle.machine.specs.Plain.{Plain, isStopped, steps}
 use Rattle.clocked.specs.Charges.{due}
 use Rattle.clocked.specs.Prediction.{core01, asIn01}
@@ -33,13 +33,13 @@ elapsed s clocked n = cond (isStopped (steps s n)) (due core01 s n) clocked
 unfoldable pub shown : Plain → (clocked n : ℕ) → Memory → Codes → (registers result : List ℕ) → Edge
 shown s clocked n m c registers result =
     let k = steps s n .machine in
-    edge 0 m (withWords (k .registers) registers 0)
+    edge 0 (m .bytes) (withWords (k .registers) registers 0)
     (withWords (statusNumber (k .status) ∷ k .last ∷ codesNumber c ∷ n ∷ elapsed s clocked n ∷ []) result 0)
 
 module _ (memory registers result : List ℕ) (start codes budget : ℕ) where
   -- the start that the lent bytes and numbers say
   abbrev pub lent : Start
-  lent = record { settings = asIn01; registers = wordsIn 15 registers 0; codes = codesFrom codes; address = start; memory = memory }
+  lent = record { settings = asIn01; registers = wordsIn 15 registers 0; codes = codesFrom codes; address = start; memory = lentMemory memory }
 
   abbrev piped : Piped
   piped = clocks core01 (pipedFrom lent) budget
@@ -53,7 +53,7 @@ module _ (memory registers result : List ℕ) (start codes budget : ℕ) where
     unfolding replayed edgeRun pipedFrom
     ran =
         let inside = runs-inside memory registers result start codes budget h in
-        rw h (ap (λ (o : PipeAnswer). edgeDone o registers result) (unlogged-ran _ memory budget inside .0))
+        rw h (ap (λ (o : PipeAnswer). edgeDone o registers result) (unlogged-ran _ (lentMemory memory) budget inside .0))
 
     -- so it shows the plain history where demand 3 holds of the pipeline
     shows : (n : ℕ) → Agrees core01 (plainFrom lent) piped budget n

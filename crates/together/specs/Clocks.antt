@@ -7,7 +7,7 @@ use native.Mathlib.Omega.{arith}
 use lib.Dec.{eqb}
 use lib.ListN.{length}
 use Rattle.clocked.specs.declared.Pipeline.{Pipeline}
-use Rattle.machine.specs.Memory.{Memory}
+use Rattle.machine.specs.Memory.{Memory, size}
 use Rattle.clocked.specs.Prediction.{coreOf}
 use Rattle.clocked.specs.Pipeline.{pipedOf, clocks}
 use Rattle.clocked.specs.PipeRuns.{PipeAnswer, pipeAnswer, pipeRefusal, pipeDone, pipeBy, pipeRunUnlogged, pipeClock}
@@ -34,10 +34,10 @@ bare o = pipeAnswer (o .number) (o .pipeline) (o .memory) [] []
 module _ (k : Pipeline) (m : Memory) where
   run-bare : (n : ℕ) → pipeRunUnlogged k m n ≡ bare (pipeRunUnlogged k m n)
   unfolding pipeRunUnlogged pipeBy pipeDone
-  run-bare n = go (eqb (pipeRefusal k (length m) n []) 0)
+  run-bare n = go (eqb (pipeRefusal k (size m) n []) 0)
     where
       o : Bool → PipeAnswer
-      o b = cond b (pipeDone (clocks (coreOf (k .settings)) (pipedOf k m) n) [] []) (pipeAnswer (pipeRefusal k (length m) n []) k m [] [])
+      o b = cond b (pipeDone (clocks (coreOf (k .settings)) (pipedOf k m) n) [] []) (pipeAnswer (pipeRefusal k (size m) n []) k m [] [])
 
       go : (b : Bool) → o b ≡ bare (o b)
       go true = simp laid-none
@@ -74,11 +74,11 @@ module _ (k : Pipeline) (m : Memory) where
       ends = as-ones n ∙ ones-join unlogged (k, m) n each r
 
 -- FROM A FRESH START a run of n that is not refused can be made clock by clock: none of them is refused, and the last one's answer is the run's
-module _ (t : Start) (b : Bytes (t .memory)) (n : ℕ) (r : pipeUnlogged t n .number ≡ 0) where
-  refusal : pipeRefusal (pipedFrom t .pipeline) (length (t .memory)) n [] ≡ 0
+module _ (t : Start) (b : Bytes (t .memory .bytes)) (n : ℕ) (r : pipeUnlogged t n .number ≡ 0) where
+  refusal : pipeRefusal (pipedFrom t .pipeline) (size (t .memory)) n [] ≡ 0
   refusal = unlogged-ran (pipedFrom t .pipeline) (t .memory) n r .1
 
-  answers : (k : Pipeline) (m : Memory) (i : ℕ) → pipeRefusal k (length m) i [] ≡ 0 → pipeRunUnlogged k m i .number ≡ 0
+  answers : (k : Pipeline) (m : Memory) (i : ℕ) → pipeRefusal k (size m) i [] ≡ 0 → pipeRunUnlogged k m i .number ≡ 0
   unfolding pipeRunUnlogged pipeBy pipeDone
   answers k m i e = rw e
 

@@ -2,6 +2,7 @@
 use clocked::Settings;
 use machine::Codes;
 use machine::REGISTERS;
+ghost use Rattle.machine.specs.Memory.{lent};
 ghost use Rattle.machine.specs.Runs.{plainAnswer};
 ghost use Rattle.clocked.specs.PipeRuns.{pipeAnswer};
 ghost use Rattle.together.specs.Both.{startOf, bothAnswer, RunsBoth};
@@ -26,10 +27,10 @@ pub fn run_both(
     addresses: &mut [u64],
     cycles: &mut [u64],
 ) -> Both
-    ensures { λ r. ⌜ RunsBoth (startOf settings registers codes address (now (memory .entry))) (now (copy .entry)) budget clocked
+    ensures { λ r. ⌜ RunsBoth (startOf settings registers codes address (lent (now (memory .entry)))) (lent (now (copy .entry))) budget clocked
         (now (log .entry)) (now (addresses .entry)) (now (cycles .entry))
-        (bothAnswer (plainAnswer (r .plain .number) (r .plain .machine) (now (memory .exit)) (now (log .exit)))
-        (pipeAnswer (r .pipe .number) (r .pipe .pipeline) (now (copy .exit)) (now (addresses .exit)) (now (cycles .exit)))) ⌝ }
+        (bothAnswer (plainAnswer (r .plain .number) (r .plain .machine) (lent (now (memory .exit))) (now (log .exit)))
+        (pipeAnswer (r .pipe .number) (r .pipe .pipeline) (lent (now (copy .exit))) (now (addresses .exit)) (now (cycles .exit)))) ⌝ }
 {
     let machine = plain::start(registers, codes, address);
     let plain = plain::run(machine, memory, budget, log);

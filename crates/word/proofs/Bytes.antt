@@ -9,28 +9,28 @@ use borrow.Author.Tests.{ltb-true}
 use lib.ListN.{length, getD, set}
 use mir.Syntax.{w8}
 use mir.Val.{Fits}
-use Rattle.machine.specs.Memory.{inside, load, store}
+use Rattle.machine.specs.Memory.{lent, inside, load, store}
 use Rattle.machine.specs.Words.{number, placed}
 
--- a word inside and one outside
-module _ (m : List ℕ) (a : ℕ) where
-  pub inside-room : inside m a ≡ true → a + 8 ≤ length m
+-- a word inside and one outside of what is lent
+module _ (b : List ℕ) (a : ℕ) where
+  pub inside-room : inside (lent b) a ≡ true → a + 8 ≤ length b
   unfolding inside
-  inside-room e = omega (arith, ltb-true (a + 7) (length m) e)
+  inside-room e = omega (arith, ltb-true (a + 7) (length b) e)
 
-  pub load-inside : (r : ℕ) → inside m a ≡ true → r ≡ number 8 m a → r ≡ load m a
+  pub load-inside : (r : ℕ) → inside (lent b) a ≡ true → r ≡ number 8 b a → r ≡ load (lent b) a
   unfolding load
   load-inside r e p = rw e p
 
-  pub load-outside : inside m a ≡ false → 0 ≡ load m a
+  pub load-outside : inside (lent b) a ≡ false → 0 ≡ load (lent b) a
   unfolding load
   load-outside e = rw e
 
-  pub store-inside : (n : List ℕ) (v : ℕ) → inside m a ≡ true → n ≡ placed 8 m a v → n ≡ store m a v
+  pub store-inside : (n : List ℕ) (v : ℕ) → inside (lent b) a ≡ true → n ≡ placed 8 b a v → lent n ≡ store (lent b) a v
   unfolding store
-  store-inside n v e p = rw e p
+  store-inside n v e p = rw (e, p)
 
-  pub store-outside : (v : ℕ) → inside m a ≡ false → m ≡ store m a v
+  pub store-outside : (v : ℕ) → inside (lent b) a ≡ false → lent b ≡ store (lent b) a v
   unfolding store
   store-outside v e = rw e
 

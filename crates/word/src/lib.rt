@@ -5,7 +5,7 @@ ghost use lib.IntN.{pos, _+ℤ_, _-ℤ_};
 ghost use lib.ListN.{length};
 ghost use lib.Signed.{ltZ};
 ghost use mir.Syntax.{w64};
-ghost use Rattle.machine.specs.Memory.{inside as insideOf, load as loadOf, store as storeOf};
+ghost use Rattle.machine.specs.Memory.{lent, inside as insideOf, load as loadOf, store as storeOf};
 ghost use Rattle.machine.specs.Words.{difference as differenceOf, number, outside, placed, signed, sum as sumOf};
 
 // A byte as a word; the bound spares each caller the fact that a byte fits.
@@ -17,7 +17,7 @@ fn wide(b: u8) -> u64
 
 // "inside exactly when a + 7, without wrapping, is below N": a sum that wrapped is below `at`.
 pub fn inside(memory: &[u8], at: u64) -> bool
-    ensures { λ r. ⌜ r ≡ insideOf (now (memory .entry)) at ⌝ }
+    ensures { λ r. ⌜ r ≡ insideOf (lent (now (memory .entry))) at ⌝ }
 {
     let last = std::num::wrapping_add_u64(at, 7);
     let size = memory.len() as u64;
@@ -40,7 +40,7 @@ fn number_at(memory: &[u8], at: usize) -> u64
 
 // The word at `at`: "A load outside memory reads 0".
 pub fn load(memory: &[u8], at: u64) -> u64
-    ensures { λ r. ⌜ r ≡ loadOf (now (memory .entry)) at ⌝ }
+    ensures { λ r. ⌜ r ≡ loadOf (lent (now (memory .entry))) at ⌝ }
 {
     if inside(memory, at) {
         number_at(memory, at as usize)
@@ -67,7 +67,7 @@ fn place_at(memory: &mut [u8], at: usize, v: u64)
 
 // The word v to `at`: "a store outside writes nothing".
 pub fn store(memory: &mut [u8], at: u64, v: u64)
-    ensures { λ _. ⌜ now (memory .exit) ≡ storeOf (now (memory .entry)) at v ⌝ }
+    ensures { λ _. ⌜ lent (now (memory .exit)) ≡ storeOf (lent (now (memory .entry))) at v ⌝ }
 {
     if inside(memory, at) {
         place_at(memory, at as usize, v);

@@ -4,11 +4,12 @@ use Rattle.plain.proofs.Ways.{runs-on, Goes, goes-first, goes-on, goes-
 use borrow.Author.Needs.{needs}
 use native.Mathlib.Omega.{arith}
 use Prim.Native.Nat.{_-_}
+use Rattle.machine.specs.Memory.{lent}
 use Rattle.plain.proofs.run_on.Statement.{statement}
 use Rattle.plain.proofs.run_on.Tie as tie
 
 abbrev Inv-loop : tie.InvT-loop
-Inv-loop memory₀ budget log₀ s₀ done₀ memory log s done = Goes s₀ memory₀ budget log₀ s memory log done
+Inv-loop memory₀ budget log₀ s₀ done₀ memory log s done = Goes s₀ (lent memory₀) budget log₀ s (lent memory) log done
 
 abbrev μ-loop : tie.MeasureT-loop
 μ-loop memory₀ budget log₀ s₀ done₀ memory log s done = budget - done

@@ -8,6 +8,7 @@ use Prim.Native.Nat.{_-_, _≤_}
 use native.Mathlib.Omega.{arith}
 use lib.ListN.{length}
 use borrow.Author.Needs.{needs}
+use Rattle.machine.specs.Memory.{lent}
 use Rattle.clocked.specs.Pipeline.{pipedOf}
 use Rattle.pipe.specs.Parts.{whole}
 use Rattle.pipe.proofs.Runs.{Here, here-first, here-next, here-stopped, at-budget, at-stop, same-start, same-lengths, small-enough}
@@ -16,7 +17,8 @@ use Rattle.pipe.proofs.running.looped.Tie as tie
 
 abbrev Inv-loop : tie.InvT-loop
 Inv-loop memory₀ budget addresses₀ cycles₀ first registers₀ flow₀ tally₀ status₀ done₀ memory addresses cycles registers flow tally status done =
-    Here (pipedOf (whole flow₀ tally₀ status₀ registers₀) memory₀) first addresses₀ cycles₀ done flow tally status registers memory addresses cycles
+    Here (pipedOf (whole flow₀ tally₀ status₀ registers₀) (lent memory₀)) first addresses₀ cycles₀ done flow tally status registers (lent memory)
+    addresses cycles
     × (done ≤ budget) × (length memory ≡ length memory₀)
 
 abbrev μ-loop : tie.MeasureT-loop
