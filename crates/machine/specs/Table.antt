@@ -68,6 +68,13 @@ table =
 unfoldable pub rowOf : ℕ → Row
 rowOf code = getD table code noRow
 
+-- a code without functions, for the rows and theorems that need one, and the first byte that has it, with function 0
+abbrev pub unknownCode : ℕ
+unknownCode = 13
+
+abbrev pub unknownByte : ℕ
+unknownByte = 0xd0
+
 -- the codes that a rule names by themselves
 abbrev pub cmov : ℕ
 cmov = 2

@@ -5,6 +5,7 @@ use mathlib.Core.Bool.{true, cond}
 use mathlib.Core.List.{List, [], _∷_}
 use lib.ListN.{replicate}
 use Rattle.machine.specs.Memory.{Memory}
+use Rattle.machine.specs.Table.{unknownByte}
 use Rattle.clocked.specs.Prediction.{asIn01}
 use Rattle.machine.specs.Plain.{plainOf, plainStart}
 use Rattle.clocked.specs.Premise.{writesByte, hasByte}
@@ -143,7 +144,7 @@ rowsOfEntries =
     -- demand 3's bytes: "An instruction's bytes are its table length from its address, cut at N."
     ∷ hasBytes "R3.4 its table length from its address: 10" 20 10 0x30f1_0000000000000000 0 (1 ∷ 1 ∷ 1 ∷ 1 ∷ 1 ∷ 1 ∷ 0 ∷ 0 ∷ 0 ∷ 0 ∷ [])
     ∷ hasBytes "R3.4 its table length from its address: 2, at 1" 20 3 0x10_6001 1 (0 ∷ 1 ∷ 1 ∷ 0 ∷ 0 ∷ 0 ∷ 0 ∷ 0 ∷ 0 ∷ 0 ∷ [])
-    ∷ hasBytes "R3.4 its table length: 1 for a code without functions" 20 1 0xc0 0 (1 ∷ 0 ∷ 0 ∷ 0 ∷ 0 ∷ 0 ∷ 0 ∷ 0 ∷ 0 ∷ 0 ∷ [])
+    ∷ hasBytes "R3.4 its table length: 1 for a code without functions" 20 1 unknownByte 0 (1 ∷ 0 ∷ 0 ∷ 0 ∷ 0 ∷ 0 ∷ 0 ∷ 0 ∷ 0 ∷ 0 ∷ [])
     ∷ hasBytes "R3.4 cut at N" 2 2 0x30f1 0 (1 ∷ 1 ∷ 0 ∷ 0 ∷ 0 ∷ 0 ∷ 0 ∷ 0 ∷ 0 ∷ 0 ∷ [])
     ∷ writesBytes "R12.2 a store writes eight bytes, inside" 24 10 0x4000_0900000000000000 (0 ∷ 0 ∷ 0 ∷ 0 ∷ 0 ∷ 1 ∷ 1 ∷ 1 ∷ 1 ∷ 1 ∷ [])
     ∷ writesBytes "R12.2 eight, and no more" 24 10 0x4000_0800000000000000 (0 ∷ 0 ∷ 0 ∷ 0 ∷ 1 ∷ 1 ∷ 1 ∷ 1 ∷ 1 ∷ 0 ∷ [])
