@@ -21,7 +21,7 @@ unfoldable pub parts : Row → ℕ
 parts row = 1 + cond (hasRegisterByte (row .byte)) 1 0 + cond (ltb 8 (row .size)) 8 0
 
 -- a test holds of every row of a list
-abbrev every : (Row → Bool) → List Row → Bool
+abbrev pub every : (Row → Bool) → List Row → Bool
 every f [] = true
 every f (x ∷ xs) = f x && every f xs
 
@@ -35,19 +35,24 @@ at f [] d t e k = e
 at f (x ∷ xs) d t e zero = both (f x) (every f xs) t .0
 at f (x ∷ xs) d t e (suc k) = at f xs d (both (f x) (every f xs) t .1) e k
 
+-- so a test that is computed over the table holds of every code's row
+pub every-row : (f : Row → Bool) → T (every f table) → T (f noRow) → (code : ℕ) → T (f (rowOf code))
+unfolding rowOf
+every-row f t e code = at f table noRow t e code
+
 -- the rule: the length of a row is that of its parts
 pub length-rule : (code : ℕ) → rowOf code .size ≡ parts (rowOf code)
-unfolding table rowOf parts hasRegisterByte
-length-rule code = eqb→eq _ _ (at (λ row. eqb (row .size) (parts row)) table noRow tt tt code)
+unfolding table parts hasRegisterByte
+length-rule code = eqb→eq _ _ (every-row (λ row. eqb (row .size) (parts row)) tt tt code)
 
--- the rule: from code 12 on there are no functions
-pub no-functions : (code : ℕ) → 12 ≤ code → rowOf code .functions ≡ 0
+-- the rule: from code 13 on there are no functions
+pub no-functions : (code : ℕ) → 13 ≤ code → rowOf code .functions ≡ 0
 unfolding table rowOf
 no-functions code h =
-    let e : code ≡ 12 + (code - 12) = omega arith in
+    let e : code ≡ 13 + (code - 13) = omega arith in
     ap (λ (k : ℕ). getD table k noRow .functions) e
-    ∙ ap (λ (row : Row). row .functions) (sym (getD-drop 12 table (code - 12) noRow))
-    ∙ eqb→eq _ _ (at (λ row. eqb (row .functions) 0) (drop 12 table) noRow tt tt (code - 12))
+    ∙ ap (λ (row : Row). row .functions) (sym (getD-drop 13 table (code - 13) noRow))
+    ∙ eqb→eq _ _ (at (λ row. eqb (row .functions) 0) (drop 13 table) noRow tt tt (code - 13))
 
 -- with a register byte there are two bytes at least
 pub two : (row : Row) → T (hasRegisterByte (row .byte)) → 2 ≤ parts row

@@ -13,7 +13,7 @@ use Rattle.machine.specs.Runs.{PlainAnswer, plainAnswer, plainRefusal as plainR
 use Rattle.clocked.specs.PipeRuns.{pipeRefusal, pipeRunUnlogged, pipeClock}
 use Rattle.records.specs.Names.{Instruction, Machine, Status, aok, hlt, adr, ins}
 use Rattle.records.specs.Given.{Change, image, given, coded, fresh, with, stopped, counts, keeps, D, E, M, W, nop, cmov, operation, jump}
-use Rattle.records.specs.Given.{popq, unknown, fetchedAs, instruction}
+use Rattle.records.specs.Given.{popq, iaddq, unknown, fetchedAs, instruction}
 use Rattle.records.specs.Looks.{Row, answers, numbers, ran, performed, refusal, status, last, retired, cycles, predicted, d, address}
 use Rattle.records.specs.Looks.{addressLog, cycleLog, plainRefusal, plainRegister, plainCodes, plainAddress, plainStatus, plainLast}
 use Rattle.records.specs.Looks.{plainCount, plainLog}
@@ -126,7 +126,7 @@ rowsOfEntries =
     ∷ anywhere "R14.3 5: code without functions in the table" 5 (unknown 0)
     ∷ anywhere "R14.3 5: code without functions in the table, 15" 5 (instruction 15 0 15 15 0 1 0)
     ∷ anywhere "R14.3 5: code above the table" 5 (instruction 16 0 15 15 0 1 0)
-    ∷ anywhere "R14.3 code 11" 0 (popq 0 0)
+    ∷ anywhere "R14.3 code 12" 0 (iaddq 0 0 0)
     ∷ anywhere "R14.3 5: move function over 6" 5 (cmov 7 0 1 0)
     ∷ anywhere "R14.3 move function 6" 0 (cmov 6 0 1 0)
     ∷ anywhere "R14.3 5: jump function over 6" 5 (jump 7 0 0)
@@ -134,6 +134,7 @@ rowsOfEntries =
     ∷ anywhere "R14.3 5: OPq function over 3" 5 (operation 4 0 1 0)
     ∷ anywhere "R14.3 OPq function 3" 0 (operation 3 0 1 0)
     ∷ anywhere "R14.3 the function of no other code is looked at" 0 (instruction 1 9 15 15 0 1 0)
+    ∷ anywhere "R14.3 the function of no other code is looked at: iaddq" 0 (instruction 12 255 15 0 0 10 0)
     ∷ anywhere "R14.3 a bad fetch status is no refusal" 0 (fetchedAs ins (nop 0))
     -- 5: "retired or a kind's count above cycles"
     ∷ counting "R14.3 counts as high as cycles" 0 (counts 5 5 5 5 5)
@@ -143,6 +144,7 @@ rowsOfEntries =
     ∷ counting "R14.3 5: a kind's count above cycles: return" 5 (counts 0 5 0 0 6)
     -- demand 3's bytes: "An instruction's bytes are its table length from its address, cut at N."
     ∷ hasBytes "R3.4 its table length from its address: 10" 20 10 0x30f1_0000000000000000 0 (1 ∷ 1 ∷ 1 ∷ 1 ∷ 1 ∷ 1 ∷ 0 ∷ 0 ∷ 0 ∷ 0 ∷ [])
+    ∷ hasBytes "R3.4 its table length from its address: 10, of an iaddq" 20 1 0xc0 0 (1 ∷ 1 ∷ 1 ∷ 1 ∷ 1 ∷ 1 ∷ 0 ∷ 0 ∷ 0 ∷ 0 ∷ [])
     ∷ hasBytes "R3.4 its table length from its address: 2, at 1" 20 3 0x10_6001 1 (0 ∷ 1 ∷ 1 ∷ 0 ∷ 0 ∷ 0 ∷ 0 ∷ 0 ∷ 0 ∷ 0 ∷ [])
     ∷ hasBytes "R3.4 its table length: 1 for a code without functions" 20 1 unknownByte 0 (1 ∷ 0 ∷ 0 ∷ 0 ∷ 0 ∷ 0 ∷ 0 ∷ 0 ∷ 0 ∷ 0 ∷ [])
     ∷ hasBytes "R3.4 cut at N" 2 2 0x30f1 0 (1 ∷ 1 ∷ 0 ∷ 0 ∷ 0 ∷ 0 ∷ 0 ∷ 0 ∷ 0 ∷ 0 ∷ [])

@@ -66,6 +66,9 @@ pushq x = instruction 10 0 x 15 0 2
 abbrev pub popq : (ra : ℕ) → ℕ → Instruction
 popq x = instruction 11 0 x 15 0 2
 
+abbrev pub iaddq : (constant rb : ℕ) → ℕ → Instruction
+iaddq c y = instruction 12 0 15 y c 10
+
 -- an instruction of a code that the table has no functions for
 abbrev pub unknown : ℕ → Instruction
 unknown = instruction unknownCode 0 15 15 0 1
