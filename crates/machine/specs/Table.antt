@@ -1,6 +1,6 @@
 -- "Lengths are kept as one table of sixteen rows": a row has document 01's columns, and then document 003's stage table for that code
 -- (halt and nop do nothing there, and cmovXX is its rrmovq under a condition).
-use Prim.Native.Nat.{ℕ}
+use Prim.Native.Nat.{ℕ, _*_}
 use mathlib.Core.Bool.{Bool}
 use mathlib.Core.List.{List, [], _∷_}
 use lib.Dec.{eqb}
@@ -73,12 +73,12 @@ table =
 unfoldable pub rowOf : ℕ → Row
 rowOf code = getD table code noRow
 
--- a code without functions, for the rows and theorems that need one, and the first byte that has it, with function 0
+-- the first code without functions, and the first byte that has it, with function 0
 abbrev pub unknownCode : ℕ
 unknownCode = 13
 
 abbrev pub unknownByte : ℕ
-unknownByte = 0xd0
+unknownByte = 16 * unknownCode
 
 -- the codes that a rule names by themselves
 abbrev pub cmov : ℕ

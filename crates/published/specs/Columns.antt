@@ -9,7 +9,7 @@ use lib.Seq.{set-set}
 use Rattle.machine.specs.Types.{isBad}
 use Rattle.machine.specs.Words.{sum, difference, placed}
 use Rattle.machine.specs.Memory.{Memory, Registers, inside, load, store, value, written}
-use Rattle.machine.specs.Table.{table, rowOf, is}
+use Rattle.machine.specs.Table.{table, rowOf, is, unknownCode}
 use Rattle.machine.specs.Fetch.{half, stopping}
 use Rattle.machine.specs.Stages
 use Rattle.machine.specs.Stages.{decode, execute, access, newCodes, newMemory, newRegisters, nextAddress}
@@ -191,8 +191,8 @@ pub nop : (s : Plain) → At s 1 → step s ≡ after s (s .machine .registers) 
 unfolding columnOf
 nop s h = column s 1 h
 
--- and there is no other: whatever a running machine fetches with AOK is at one of these columns, codes 1 to 12
-pub some-column : (s : Plain) → isStopped s ≡ false → fetched s .status ≡ aok → (1 ≤ icode s) × (icode s ≤ 12) × At s (icode s)
+-- and there is no other: whatever a running machine fetches with AOK is at one of these columns, from code 1 to the last with functions
+pub some-column : (s : Plain) → isStopped s ≡ false → fetched s .status ≡ aok → (1 ≤ icode s) × (icode s < unknownCode) × At s (icode s)
 unfolding fetched
 some-column s r e =
     let code = aok-code (s .memory) (PC s) e in

@@ -12,7 +12,7 @@ use lib.Seq.{getD-take, getD-drop, drop-cons}
 use Rattle.machine.specs.Types.{isBad}
 use Rattle.machine.specs.Words.{sum, number}
 use Rattle.machine.specs.Memory.{Memory}
-use Rattle.machine.specs.Table.{rowOf, table, RegisterByte, noByte, bothNamed, onlyB, onlyA}
+use Rattle.machine.specs.Table.{rowOf, table, unknownCode, RegisterByte, noByte, bothNamed, onlyB, onlyA}
 use Rattle.machine.specs.Fetch.{sizeAt, ownBytes, stopping, checked, half, constantIn, parsed, fetch, halvesFit}
 use Rattle.published.specs.Names.{Status, aok, hlt, Instruction}
 use Rattle.published.specs.Lengths.{length-rule, no-functions, two, parts, hasRegisterByte}
@@ -118,15 +118,15 @@ checked-aok false false false false false i e = (refl, refl, refl)
 pub fetch-aok : (m : Memory) (a : ℕ) → fetch m a .status ≡ aok → fetch m a ≡ aokAt m a (M₁ m a / 16)
 fetch-aok m a e = fetch-is m a ∙ checked-aok _ _ _ _ _ _ (ap (λ i. i .status) (sym (fetch-is m a)) ∙ e) .0
 
--- and its code is one of 1 to 12: it has functions, and is no halt
-pub aok-code : (m : Memory) (a : ℕ) → fetch m a .status ≡ aok → (1 ≤ M₁ m a / 16) × (M₁ m a / 16 ≤ 12)
+-- and its code has functions, and is no halt
+pub aok-code : (m : Memory) (a : ℕ) → fetch m a .status ≡ aok → (1 ≤ M₁ m a / 16) × (M₁ m a / 16 < unknownCode)
 unfolding aokAt
 aok-code m a e =
     let code = M₁ m a / 16 in
     let passed = checked-aok _ _ _ _ _ _ (ap (λ i. i .status) (sym (fetch-is m a)) ∙ e) in
     let some : 0 < code = lt-of-not-le (λ h. eqb-false code 0 (passed .2) (omega arith)) in
-    let known : code < 13 = lt-of-not-le (λ h. omega (arith, leb-false (rowOf code .functions) (M₁ m a % 16) (passed .1), no-functions code h)) in
-    (omega arith, omega arith)
+    let known : code < unknownCode = lt-of-not-le (λ h. omega (arith, leb-false (rowOf code .functions) (M₁ m a % 16) (passed .1), no-functions code h)) in
+    (omega arith, known)
 
 -- a bad status is that of a nop that goes nowhere
 checked-bad : (f n l r h : Bool) (i : Instruction) (bad : Status) → i .status ≡ aok → isBad bad ≡ true → checked f n l r h i .status ≡ bad

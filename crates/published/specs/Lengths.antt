@@ -7,7 +7,7 @@ use native.Mathlib.Omega.{arith}
 use lib.Dec.{T, ltb, eqb, eqb→eq}
 use lib.ListN.{getD, drop}
 use lib.Seq.{getD-drop}
-use Rattle.machine.specs.Table.{Row, RegisterByte, noByte, bothNamed, onlyB, onlyA, table, noRow, rowOf}
+use Rattle.machine.specs.Table.{Row, RegisterByte, noByte, bothNamed, onlyB, onlyA, table, noRow, rowOf, unknownCode}
 
 -- is there a register byte
 unfoldable pub hasRegisterByte : RegisterByte → Bool
@@ -45,14 +45,14 @@ pub length-rule : (code : ℕ) → rowOf code .size ≡ parts (rowOf code)
 unfolding table parts hasRegisterByte
 length-rule code = eqb→eq _ _ (every-row (λ row. eqb (row .size) (parts row)) tt tt code)
 
--- the rule: from code 13 on there are no functions
-pub no-functions : (code : ℕ) → 13 ≤ code → rowOf code .functions ≡ 0
+-- the rule: from the first code without functions on there are none
+pub no-functions : (code : ℕ) → unknownCode ≤ code → rowOf code .functions ≡ 0
 unfolding table rowOf
 no-functions code h =
-    let e : code ≡ 13 + (code - 13) = omega arith in
+    let e : code ≡ unknownCode + (code - unknownCode) = omega arith in
     ap (λ (k : ℕ). getD table k noRow .functions) e
-    ∙ ap (λ (row : Row). row .functions) (sym (getD-drop 13 table (code - 13) noRow))
-    ∙ eqb→eq _ _ (at (λ row. eqb (row .functions) 0) (drop 13 table) noRow tt tt (code - 13))
+    ∙ ap (λ (row : Row). row .functions) (sym (getD-drop unknownCode table (code - unknownCode) noRow))
+    ∙ eqb→eq _ _ (at (λ row. eqb (row .functions) 0) (drop unknownCode table) noRow tt tt (code - unknownCode))
 
 -- with a register byte there are two bytes at least
 pub two : (row : Row) → T (hasRegisterByte (row .byte)) → 2 ≤ parts row
