@@ -39,10 +39,26 @@ cases =
     ∷ case 16 9 0xb04f_00_0000000000_05 ((4, 8) ∷ []) hlt 2 4 2 6 0 0 0 ((register, 4, 5) ∷ [])
     -- P11 popq rsp before ret: ret charged 1, its follower 3
     ∷ case 32 25 0xb04f_90_00_00000000_1800000000000000_0000000000000000_03 ((4, 8) ∷ []) hlt 3 4 3 11 1 0 3 ((register, 4, 32) ∷ (charged, 2, 1) ∷ (charged, 3, 3) ∷ [])
-    -- a filler that isn't F: INS
-    ∷ case 2 2 0xa000 [] ins 0 4 1 5 0 0 0 []
-    ∷ case 2 2 0xb000 [] ins 0 4 1 5 0 0 0 []
-    ∷ case 10 10 0x30000000000000000000 [] ins 0 4 1 5 0 0 0 []
+    -- a filler is not looked at (02, #102): 8, as 004 shows it, 0 and 14, of irmovq 5, rdx; iaddq 5, rdx; pushq rax; popq rcx
+    ∷ case 11 11 0x3082_0500000000000000_00 [] hlt 10 4 2 6 0 0 0 ((register, 2, 5) ∷ (register, 8, 0) ∷ [])
+    ∷ case 11 11 0x3002_0500000000000000_00 [] hlt 10 4 2 6 0 0 0 ((register, 2, 5) ∷ (register, 0, 0) ∷ [])
+    ∷ case 11 11 0x30e2_0500000000000000_00 [] hlt 10 4 2 6 0 0 0 ((register, 2, 5) ∷ (register, 14, 0) ∷ [])
+    ∷ case 11 11 0xc082_0500000000000000_00 ((2, 1) ∷ []) hlt 10 0 2 6 0 0 0 ((register, 2, 6) ∷ (register, 8, 0) ∷ [])
+    ∷ case 11 11 0xc002_0500000000000000_00 ((2, 1) ∷ []) hlt 10 0 2 6 0 0 0 ((register, 2, 6) ∷ (register, 0, 0) ∷ [])
+    ∷ case 11 11 0xc0e2_0500000000000000_00 ((2, 1) ∷ []) hlt 10 0 2 6 0 0 0 ((register, 2, 6) ∷ (register, 14, 0) ∷ [])
+    ∷ case 16 3 0xa008_00 ((0, 7) ∷ (4, 16) ∷ []) hlt 2 4 2 6 0 0 0 ((register, 4, 8) ∷ (word, 8, 7) ∷ [])
+    ∷ case 16 3 0xa000_00 ((0, 7) ∷ (4, 16) ∷ []) hlt 2 4 2 6 0 0 0 ((register, 4, 8) ∷ (word, 8, 7) ∷ [])
+    ∷ case 16 3 0xa00e_00 ((0, 7) ∷ (4, 16) ∷ []) hlt 2 4 2 6 0 0 0 ((register, 4, 8) ∷ (word, 8, 7) ∷ [])
+    ∷ case 11 11 0xb018_00_0500000000000000 ((4, 3) ∷ []) hlt 2 4 2 6 0 0 0 ((register, 1, 5) ∷ (register, 8, 0) ∷ (register, 4, 11) ∷ [])
+    ∷ case 11 11 0xb010_00_0500000000000000 ((4, 3) ∷ []) hlt 2 4 2 6 0 0 0 ((register, 1, 5) ∷ (register, 0, 0) ∷ (register, 4, 11) ∷ [])
+    ∷ case 11 11 0xb01e_00_0500000000000000 ((4, 3) ∷ []) hlt 2 4 2 6 0 0 0 ((register, 1, 5) ∷ (register, 14, 0) ∷ (register, 4, 11) ∷ [])
+    -- nor is it a source: pushq rax with filler 3 behind a load of rbx
+    ∷ case 24 13 0x5030_0000000000000000_a003_00 ((4, 24) ∷ []) hlt 12 4 3 7 0 0 0 ((register, 3, 0x3050) ∷ (charged, 2, 0) ∷ (word, 16, 0) ∷ [])
+    -- a named register that is 15: INS, whatever the filler
+    ∷ case 10 10 0x308f_0000000000000000 [] ins 0 4 1 5 0 0 0 []
+    ∷ case 10 10 0xc0ff_0000000000000000 [] ins 0 4 1 5 0 0 0 []
+    ∷ case 2 2 0xa0f8 [] ins 0 4 1 5 0 0 0 []
+    ∷ case 2 2 0xb0ff [] ins 0 4 1 5 0 0 0 []
     -- a function that the table has not: INS
     ∷ case 1 1 0x01 [] ins 0 4 1 5 0 0 0 []
     ∷ case 2 2 0x2700 [] ins 0 4 1 5 0 0 0 []

@@ -7,7 +7,7 @@ use lib.Dec.{eqb}
 use lib.ListN.{getD}
 use Rattle.machine.specs.Types.{Instruction}
 
--- what the register byte is: there is none; rA rB; F rB; rA F
+-- what the register byte is: there is none; rA rB; F rB; rA F, where F is a filler
 pub data RegisterByte : Type 0 where
   noByte bothNamed onlyB onlyA : RegisterByte
 

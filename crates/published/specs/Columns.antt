@@ -10,7 +10,7 @@ use Rattle.machine.specs.Types.{isBad}
 use Rattle.machine.specs.Words.{sum, difference, placed}
 use Rattle.machine.specs.Memory.{Memory, Registers, inside, load, store, value, written}
 use Rattle.machine.specs.Table.{table, rowOf, is, unknownCode}
-use Rattle.machine.specs.Fetch.{half, stopping}
+use Rattle.machine.specs.Fetch.{namesA, namesB, half, stopping}
 use Rattle.machine.specs.Stages
 use Rattle.machine.specs.Stages.{decode, execute, access, newCodes, newMemory, newRegisters, nextAddress}
 use Rattle.machine.specs.Stages.{operated, operatedCodes, condition, loads, stores, accessAddress, accessStatus}
@@ -92,7 +92,7 @@ step-of s i r e a = rw (r, e) (decided (loads i || stores i) (inside (s .memory)
 
 -- the same of the instruction at the program address
 unfoldable columnOf : Plain → ℕ → Plain
-unfolding rowOf table is half value written Stages.register Stages.sourceA Stages.sourceB decode
+unfolding rowOf table is namesA namesB half value written Stages.register Stages.sourceA Stages.sourceB decode
     Stages.computed Stages.result Stages.outcome execute
     Stages.loading Stages.storing loads stores Stages.addressed accessAddress Stages.stored Stages.storedWord access
     Stages.codesBy newCodes newMemory Stages.resultTarget Stages.loadedTarget newRegisters Stages.turned Stages.straight nextAddress isBad stepOf aokAt

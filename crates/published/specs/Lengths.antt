@@ -1,20 +1,18 @@
 -- The rules of the table's lengths and functions, each by one test computed over its rows.
 use Prim.Native.Nat.{ℕ, zero, suc, _+_, _-_, _≤_}
 use mathlib.Core.Path.{_≡_, ap, sym, _∙_}
-use mathlib.Core.Bool.{Bool, true, false, cond, _&&_}
+use mathlib.Core.Bool.{Bool, true, false, cond, _&&_, _||_}
 use mathlib.Core.List.{List, [], _∷_}
 use native.Mathlib.Omega.{arith}
 use lib.Dec.{T, ltb, eqb, eqb→eq}
 use lib.ListN.{getD, drop}
 use lib.Seq.{getD-drop}
-use Rattle.machine.specs.Table.{Row, RegisterByte, noByte, bothNamed, onlyB, onlyA, table, noRow, rowOf, unknownCode}
+use Rattle.machine.specs.Fetch.{namesA, namesB}
+use Rattle.machine.specs.Table.{Row, RegisterByte, table, noRow, rowOf, unknownCode}
 
--- is there a register byte
+-- is there a register byte: it names one register at least
 unfoldable pub hasRegisterByte : RegisterByte → Bool
-hasRegisterByte noByte = false
-hasRegisterByte bothNamed = true
-hasRegisterByte onlyB = true
-hasRegisterByte onlyA = true
+hasRegisterByte y = namesA y || namesB y
 
 -- the length that the parts of an instruction add up to: the first byte, a register byte, an 8-byte constant
 unfoldable pub parts : Row → ℕ
@@ -42,7 +40,7 @@ every-row f t e code = at f table noRow t e code
 
 -- the rule: the length of a row is that of its parts
 pub length-rule : (code : ℕ) → rowOf code .size ≡ parts (rowOf code)
-unfolding table parts hasRegisterByte
+unfolding table parts hasRegisterByte namesA namesB
 length-rule code = eqb→eq _ _ (every-row (λ row. eqb (row .size) (parts row)) tt tt code)
 
 -- the rule: from the first code without functions on there are none

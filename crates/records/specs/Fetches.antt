@@ -54,21 +54,25 @@ rowsOfFetch =
     ∷ fetchesAt "R4.1 first byte outside memory, ADR: at the highest address" 1 1 0x10 (2 ^ 64 - 1) ((fetchStatus, 3) ∷ (address, 2 ^ 64 - 1) ∷ [])
     ∷ fetches "R4.1 code or function not in the table before a later byte outside"
     ((1, 0x27) ∷ (1, 0x31) ∷ (1, 0x77) ∷ (1, 0x81) ∷ (1, 0xa1) ∷ (1, 0xc1) ∷ []) (4 ∷ 4 ∷ 4 ∷ 4 ∷ 4 ∷ 4 ∷ [])
-    ∷ fetches "R4.1 a later byte outside before a named register that is 15 or a filler that isn't F"
-    ((9, 0x40ff_00000000000000) ∷ (9, 0x3000_00000000000000) ∷ []) (3 ∷ 3 ∷ [])
-    -- named registers and fillers, by instruction and half
+    ∷ fetches "R4.1 a later byte outside before a named register that is 15"
+    ((9, 0x40ff_00000000000000) ∷ (9, 0x30ff_00000000000000) ∷ []) (3 ∷ 3 ∷ [])
+    -- named registers, by instruction and half, and fillers, which are not looked at
     ∷ fetches "R4.1 a named register that is 15: cmovXX" ((2, 0x20f0) ∷ (2, 0x200f) ∷ (2, 0x20ee) ∷ []) (4 ∷ 4 ∷ 1 ∷ [])
     ∷ fetches "R4.1 a named register that is 15: OPq" ((2, 0x60f0) ∷ (2, 0x600f) ∷ (2, 0x60ee) ∷ []) (4 ∷ 4 ∷ 1 ∷ [])
     ∷ fetches "R4.1 a named register that is 15: rmmovq"
     ((10, 0x40f0_0000000000000000) ∷ (10, 0x400f_0000000000000000) ∷ (10, 0x40ee_0000000000000000) ∷ []) (4 ∷ 4 ∷ 1 ∷ [])
     ∷ fetches "R4.1 a named register that is 15: mrmovq"
     ((10, 0x50f0_0000000000000000) ∷ (10, 0x500f_0000000000000000) ∷ (10, 0x50ee_0000000000000000) ∷ []) (4 ∷ 4 ∷ 1 ∷ [])
-    ∷ fetches "R4.1 irmovq F rB: a filler that isn't F, a named register that is 15"
-    ((10, 0x30e0_0000000000000000) ∷ (10, 0x30ff_0000000000000000) ∷ (10, 0x30fe_0000000000000000) ∷ []) (4 ∷ 4 ∷ 1 ∷ [])
-    ∷ fetches "R4.1 iaddq F rB: a filler that isn't F, a named register that is 15"
-    ((10, 0xc0e0_0000000000000000) ∷ (10, 0xc0ff_0000000000000000) ∷ (10, 0xc0fe_0000000000000000) ∷ []) (4 ∷ 4 ∷ 1 ∷ [])
-    ∷ fetches "R4.1 pushq rA F: a filler that isn't F, a named register that is 15" ((2, 0xa00e) ∷ (2, 0xa0ff) ∷ (2, 0xa0ef) ∷ []) (4 ∷ 4 ∷ 1 ∷ [])
-    ∷ fetches "R4.1 popq rA F: a filler that isn't F, a named register that is 15" ((2, 0xb00e) ∷ (2, 0xb0ff) ∷ (2, 0xb0ef) ∷ []) (4 ∷ 4 ∷ 1 ∷ [])
+    ∷ fetches "R4.1 irmovq: fillers 0, 8, 14 and F, and a named register that is 15 beside a filler 8 and F"
+    ((10, 0x3000_0000000000000000) ∷ (10, 0x3081_0000000000000000) ∷ (10, 0x30e2_0000000000000000) ∷ (10, 0x30fe_0000000000000000)
+    ∷ (10, 0x308f_0000000000000000) ∷ (10, 0x30ff_0000000000000000) ∷ []) (1 ∷ 1 ∷ 1 ∷ 1 ∷ 4 ∷ 4 ∷ [])
+    ∷ fetches "R4.1 iaddq: fillers 0, 8, 14 and F, and a named register that is 15 beside a filler 8 and F"
+    ((10, 0xc000_0000000000000000) ∷ (10, 0xc081_0000000000000000) ∷ (10, 0xc0e2_0000000000000000) ∷ (10, 0xc0fe_0000000000000000)
+    ∷ (10, 0xc08f_0000000000000000) ∷ (10, 0xc0ff_0000000000000000) ∷ []) (1 ∷ 1 ∷ 1 ∷ 1 ∷ 4 ∷ 4 ∷ [])
+    ∷ fetches "R4.1 pushq: fillers 0, 8, 14 and F, and a named register that is 15 beside a filler 8 and F"
+    ((2, 0xa000) ∷ (2, 0xa018) ∷ (2, 0xa02e) ∷ (2, 0xa0ef) ∷ (2, 0xa0f8) ∷ (2, 0xa0ff) ∷ []) (1 ∷ 1 ∷ 1 ∷ 1 ∷ 4 ∷ 4 ∷ [])
+    ∷ fetches "R4.1 popq: fillers 0, 8, 14 and F, and a named register that is 15 beside a filler 8 and F"
+    ((2, 0xb000) ∷ (2, 0xb018) ∷ (2, 0xb02e) ∷ (2, 0xb0ef) ∷ (2, 0xb0f8) ∷ (2, 0xb0ff) ∷ []) (1 ∷ 1 ∷ 1 ∷ 1 ∷ 4 ∷ 4 ∷ [])
     -- the fields
     ∷ fetchesAt "R3.1 First byte is code and function; then a register byte rA:rB" 3 3 0x10_2623 1
     ((fetchStatus, 1) ∷ (address, 1) ∷ (code, 2) ∷ (function, 6) ∷ (ra, 2) ∷ (rb, 3) ∷ (constant, 0) ∷ (next, 3) ∷ [])
@@ -76,6 +80,10 @@ rowsOfFetch =
     ((code, 5) ∷ (function, 0) ∷ (ra, 2) ∷ (rb, 3) ∷ (constant, 0x0807060504030201) ∷ (next, 10) ∷ [])
     ∷ fetchesAt "R3.1 iaddq: F rB and an 8-byte constant C" 11 11 0x10_c0f3_0102030405060708 1
     ((fetchStatus, 1) ∷ (code, 12) ∷ (function, 0) ∷ (ra, 15) ∷ (rb, 3) ∷ (constant, 0x0807060504030201) ∷ (next, 11) ∷ [])
+    ∷ fetchesAt "R4.2 a filler's half is 15: irmovq" 10 10 0x3083_0000000000000000 0 ((fetchStatus, 1) ∷ (ra, 15) ∷ (rb, 3) ∷ [])
+    ∷ fetchesAt "R4.2 a filler's half is 15: iaddq" 10 10 0xc083_0000000000000000 0 ((fetchStatus, 1) ∷ (ra, 15) ∷ (rb, 3) ∷ [])
+    ∷ fetchesAt "R4.2 a filler's half is 15: pushq" 2 2 0xa038 0 ((fetchStatus, 1) ∷ (ra, 3) ∷ (rb, 15) ∷ [])
+    ∷ fetchesAt "R4.2 a filler's half is 15: popq" 2 2 0xb030 0 ((fetchStatus, 1) ∷ (ra, 3) ∷ (rb, 15) ∷ [])
     ∷ fetchesAt "R4.2 jXX has no register byte, so C follows the first" 9 9 0x76_f102030405060708 0
     ((fetchStatus, 1) ∷ (code, 7) ∷ (function, 6) ∷ (ra, 15) ∷ (rb, 15) ∷ (constant, 0x08070605040302f1) ∷ (next, 9) ∷ [])
     ∷ fetchesAt "R4.2 call has no register byte" 9 9 0x80_f102030405060708 0
