@@ -14,7 +14,7 @@ use Rattle.account.specs.Names.{Status, Instruction, Executed, Accessed,
 use Rattle.account.specs.Names.{StageD, bubbleD, inD, StageE, bubbleE, inE, StageM, bubbleM, inM, StageW, bubbleW, inW}
 use Rattle.machine.specs.Words.{placed}
 use Rattle.machine.specs.Memory.{Memory, lent, size, inside, store}
-use Rattle.machine.specs.Table.{RegisterByte, noByte, bothNamed, onlyB, onlyA, rowOf, table, is, cmov, jump, operation}
+use Rattle.machine.specs.Table.{rowOf, table, is, cmov, jump, operation}
 use Rattle.machine.specs.Fetch.{fetch, parsed, stopping, half, ownBytes, sizeAt}
 use Rattle.machine.specs.Stages.{decode, execute, access, stores, accessAddress, storedWord, newMemory}
 use Rattle.clocked.specs.Prediction.{Core}
@@ -74,12 +74,10 @@ stopping-fits : (a : ℕ) (x : Status) → instructionRefused (stopping a x) ≡
 unfolding instructionRefused stopping rowOf table is
 stopping-fits a x = refl
 
-half-fits : (y : RegisterByte) (x : ℕ) → x < 16 → ltb 15 (half y x) ≡ false
+half-fits : (named : Bool) (x : ℕ) → x < 16 → ltb 15 (half named x) ≡ false
 unfolding half
-half-fits noByte x h = refl
-half-fits bothNamed x h = le-ltb 15 x (omega arith)
-half-fits onlyB x h = le-ltb 15 x (omega arith)
-half-fits onlyA x h = le-ltb 15 x (omega arith)
+half-fits true x h = le-ltb 15 x (omega arith)
+half-fits false x h = refl
 
 and-false : (b : Bool) → b && false ≡ false
 and-false true = refl

@@ -8,6 +8,7 @@ use lib.ListN.{length, getD, replicate}
 use Rattle.account.specs.Names.{Status, aok, hlt, adr, ins, Codes, Kinds}
 use Rattle.machine.specs.Types.{statusNumber, isBad}
 use Rattle.machine.specs.Memory.{Memory, lent, Registers}
+use Rattle.machine.specs.Table.{unknownByte}
 use Rattle.machine.specs.Plain.{Plain, isStopped, steps}
 use Rattle.clocked.specs.Prediction.{Core, core01, asIn01}
 use Rattle.clocked.specs.Charges.{due}
@@ -77,7 +78,7 @@ reached x =
     }
 
 -- the premise is met, every kind of charge is made, and each stop is reached: by a halt, a ret whose word is outside, and a code without functions
-pub each-stop : (figures 3 (program 0x00) 7 17 ≡ reached hlt) × (figures 3 (program 0x90) 7 17 ≡ reached adr) × (figures 3 (program 0xc0) 7 17 ≡ reached ins)
+pub each-stop : (figures 3 (program 0x00) 7 17 ≡ reached hlt) × (figures 3 (program 0x90) 7 17 ≡ reached adr) × (figures 3 (program unknownByte) 7 17 ≡ reached ins)
 unfolding figures program reached
 each-stop = (refl, refl, refl)
 

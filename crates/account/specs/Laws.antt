@@ -1,25 +1,27 @@
 -- What the control proof uses of the instruction set and of the plain step. A new instruction, or another row of the table, has to keep these.
 -- What it uses of the register file alone, a write and what is read after it, is laws' Registers.
 use Prim.Native.Nat.{ℕ, zero, suc, _+_}
-use mathlib.Core.Bool.{Bool, true, false, cond, not, _||_, Bool·beq, true≢false}
+use mathlib.Core.Bool.{Bool, true, false, cond, not, _&&_, _||_, Bool·beq, true≢false}
 use mathlib.Core.List.{[], _∷_, _++_}
 use mathlib.Core.Path.{_≡_, refl, ap, sym, _∙_}
 use native.Mathlib.Omega.{arith}
 use borrow.Author.Tests.{eqb-true}
-use lib.Dec.{eqb}
+use lib.Dec.{T, eqb}
 use lib.ListN.{length}
 use Rattle.account.specs.Names.{Status, hlt, adr, ins, Codes, Instruction, Decoded, Retired, inM, inW}
 use Rattle.machine.specs.Types.{isBad}
 use Rattle.machine.specs.Memory.{inside, store}
-use Rattle.machine.specs.Table.{rowOf, table, is, operation, cmov, jump, ret}
+use Rattle.machine.specs.Table.{Row, Sets, noCodes, byOp, bySum, rowOf, table, is, cmov, jump, ret}
 use Rattle.machine.specs.Fetch.{fetch, parsed, checked, stopping}
 use Rattle.machine.specs.Stages.{register, decode, execute, access, outcome, condition, loads, stores, loading, storing, accessAddress}
-use Rattle.machine.specs.Stages.{accessStatus, newCodes, newMemory, newRegisters, loadedTarget, sourceA, sourceB, turned, straight, nextAddress}
+use Rattle.machine.specs.Stages.{accessStatus, codesBy, newCodes, newMemory, newRegisters, loadedTarget, sourceA, sourceB, turned, straight, nextAddress}
 use Rattle.machine.specs.Plain.{Plain, isStopped, fetched, decoded, executed, accessed, performed, stoppedBy, step, steps}
 use Rattle.clocked.specs.Prediction.{Core, guess, predictedNext, mispredicted, meets, loadUse}
 use Rattle.clocked.specs.Charges.{reasonBehind, retiredOf, amount, reasonOf, charge, charges, due}
 use Rattle.clocked.specs.Pipeline.{pastResult, pastBoth}
+use Rattle.published.specs.Lengths.{every-row}
 use Rattle.clock_laws.specs.Registers.{meets-none, length-written}
+use Rattle.laws.specs.Tests.{neither}
 
 -- 1 or 0
 unfoldable pub bit : Bool → ℕ
@@ -74,14 +76,33 @@ nop-stores : (i : Instruction) → i .code ≡ 1 → stores i ≡ false
 unfolding stores storing rowOf table
 nop-stores i h = rw h
 
-nop-sets : (i : Instruction) → i .code ≡ 1 → is operation i ≡ false
-unfolding is
+setting : Sets → Bool
+setting noCodes = false
+setting byOp = true
+setting bySum = true
+
+nop-sets : (i : Instruction) → i .code ≡ 1 → setting (rowOf (i .code) .sets) ≡ false
+unfolding setting rowOf table
 nop-sets i h = rw h
 
--- OPq accesses nothing
-sets-loads : (i : Instruction) → is operation i ≡ true → (loads i ≡ false) × (stores i ≡ false)
-unfolding is loads stores loading storing rowOf table
-sets-loads i h = let k = eqb-true (i .code) 6 h in (rw k, rw k)
+none-set : (k : Sets) (x : Decoded) (c : Codes) → setting k ≡ false → codesBy k x c ≡ c
+unfolding setting codesBy
+none-set noCodes x c h = refl
+none-set byOp x c h = cc
+none-set bySum x c h = cc
+
+-- what sets codes accesses nothing
+abbrev apart : Row → Bool
+apart row = not (setting (row .sets) && (loading (row .accesses) || storing (row .accesses)))
+
+not-both : (a b : Bool) → T (not (a && b)) → a ≡ true → b ≡ false
+not-both true true t e = absurd t
+not-both true false t e = refl
+not-both false b t e = cc
+
+sets-loads : (i : Instruction) → setting (rowOf (i .code) .sets) ≡ true → (loads i ≡ false) × (stores i ≡ false)
+unfolding setting loads stores loading storing table
+sets-loads i h = neither _ _ (not-both _ _ (every-row apart tt tt (i .code)) h)
 
 -- a stopping instruction stores nothing and sets no codes
 quiet-memory : (s : Plain) → isBad (accessed s .status) ≡ true → newMemory (executed s) (s .memory) ≡ s .memory
@@ -98,13 +119,12 @@ quiet-memory s h = go (stores (executed s .instruction)) (inside (s .memory) (ac
 
 quiet-codes : (s : Plain) → isBad (accessed s .status) ≡ true → newCodes (decoded s) (s .machine .codes) ≡ s .machine .codes
 unfolding accessed access accessStatus newCodes
-quiet-codes s h = go (is operation (decoded s .instruction)) refl
+quiet-codes s h = go (setting (rowOf (fetched s .code) .sets)) refl
   where
-    go : (b : Bool) → is operation (decoded s .instruction) ≡ b → newCodes (decoded s) (s .machine .codes) ≡ s .machine .codes
-    go false e = cc
+    go : (b : Bool) → setting (rowOf (fetched s .code) .sets) ≡ b → newCodes (decoded s) (s .machine .codes) ≡ s .machine .codes
+    go false e = none-set _ (decoded s) _ (cc (in-decoded s))
     go true e =
-        let o : is operation (fetched s) ≡ true = cc (in-decoded s) in
-        let n = sets-loads (fetched s) o in
+        let n = sets-loads (fetched s) e in
         let k : isBad (fetched s .status) ≡ true = cc (in-executed s, n .0, n .1) in
         cc (nop-sets (fetched s) (fetched-as s .nop k))
 

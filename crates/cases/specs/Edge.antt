@@ -4,6 +4,7 @@ use mathlib.Core.List.{List, [], _∷_}
 use mathlib.Core.Path.{refl}
 use lib.ListN.{getD, drop, replicate}
 use Rattle.machine.specs.Memory.{Memory}
+use Rattle.machine.specs.Table.{unknownByte}
 use Rattle.block.specs.Block.{wordsIn, withWords}
 use Rattle.edge.specs.Edge.{Edge, edge}
 use Rattle.cases.specs.Promises.{host-edge}
@@ -18,11 +19,11 @@ pub edge-refuses : (n : ℕ) → FallsFoul host-edge (λ x. edge (suc n) (x .0) 
 unfolding computing
 edge-refuses n = differs (λ r. refused (r .answer)) 1 0 refl
 
--- one that always answers HLT, whatever else another one, f, answers: at `c0` its status word is 2, where it ought to be INS, 4
+-- one that always answers HLT, whatever else another one, f, answers: at a code without functions its status word is 2, where it ought to be INS, 4
 abbrev withHlt : Edge → List ℕ → Edge
 withHlt o result = edge (o .answer) (o .memory) (o .registers) (withWords (2 ∷ drop 1 (wordsIn 5 (o .result) 0)) result 0)
 
-pub edge-halts : (f : host-edge .Given → Edge) → FallsFoul host-edge (λ x. withHlt (f x) (x .2)) (0xc0 ∷ [], replicate 120 0, replicate 40 0, 0, 4, 5)
+pub edge-halts : (f : host-edge .Given → Edge) → FallsFoul host-edge (λ x. withHlt (f x) (x .2)) (unknownByte ∷ [], replicate 120 0, replicate 40 0, 0, 4, 5)
 unfolding computing
 edge-halts f = differs (λ r. getD (r .result) 0 0) 2 4 refl
 

@@ -41,12 +41,12 @@ pub P1-written : writes (0x00 ∷ []) ≡ bytes "y86run\t1\nstat\tHLT\nlast\t0\n
 unfolding writes
 P1-written = refl
 
--- the other stops: `60` and `c0`
+-- the other stops: `60` and `d0`
 pub P5-written : writes (0x60 ∷ []) ≡ bytes "y86run\t1\nstat\tADR\nlast\t0\ncodes\t4\nretired\t1\ncycles\t5\nloaduse\t0\nmispredict\t0\nreturn\t0\n"
 unfolding writes
 P5-written = refl
 
-pub P3-written : writes (0xc0 ∷ []) ≡ bytes "y86run\t1\nstat\tINS\nlast\t0\ncodes\t4\nretired\t1\ncycles\t5\nloaduse\t0\nmispredict\t0\nreturn\t0\n"
+pub P3-written : writes (0xd0 ∷ []) ≡ bytes "y86run\t1\nstat\tINS\nlast\t0\ncodes\t4\nretired\t1\ncycles\t5\nloaduse\t0\nmispredict\t0\nreturn\t0\n"
 unfolding writes
 P3-written = refl
 

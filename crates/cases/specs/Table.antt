@@ -18,8 +18,8 @@ cases =
     case 1 1 0x00 [] hlt 0 4 1 5 0 0 0 []
     -- P2 `10`: nop, then ADR at 1; 2 retired, 6 cycles
     ∷ case 1 1 0x10 [] adr 1 4 2 6 0 0 0 []
-    -- P3 `c0` INS
-    ∷ case 1 1 0xc0 [] ins 0 4 1 5 0 0 0 []
+    -- P3 `d0` INS (02, #101)
+    ∷ case 1 1 0xd0 [] ins 0 4 1 5 0 0 0 []
     -- P4 `64` INS, before the missing byte
     ∷ case 1 1 0x64 [] ins 0 4 1 5 0 0 0 []
     -- P5 `60` ADR
@@ -39,10 +39,26 @@ cases =
     ∷ case 16 9 0xb04f_00_0000000000_05 ((4, 8) ∷ []) hlt 2 4 2 6 0 0 0 ((register, 4, 5) ∷ [])
     -- P11 popq rsp before ret: ret charged 1, its follower 3
     ∷ case 32 25 0xb04f_90_00_00000000_1800000000000000_0000000000000000_03 ((4, 8) ∷ []) hlt 3 4 3 11 1 0 3 ((register, 4, 32) ∷ (charged, 2, 1) ∷ (charged, 3, 3) ∷ [])
-    -- a filler that isn't F: INS
-    ∷ case 2 2 0xa000 [] ins 0 4 1 5 0 0 0 []
-    ∷ case 2 2 0xb000 [] ins 0 4 1 5 0 0 0 []
-    ∷ case 10 10 0x30000000000000000000 [] ins 0 4 1 5 0 0 0 []
+    -- a filler is not looked at (02, #102): 8, as 004 shows it, 0 and 14, of irmovq 5, rdx; iaddq 5, rdx; pushq rax; popq rcx
+    ∷ case 11 11 0x3082_0500000000000000_00 [] hlt 10 4 2 6 0 0 0 ((register, 2, 5) ∷ (register, 8, 0) ∷ [])
+    ∷ case 11 11 0x3002_0500000000000000_00 [] hlt 10 4 2 6 0 0 0 ((register, 2, 5) ∷ (register, 0, 0) ∷ [])
+    ∷ case 11 11 0x30e2_0500000000000000_00 [] hlt 10 4 2 6 0 0 0 ((register, 2, 5) ∷ (register, 14, 0) ∷ [])
+    ∷ case 11 11 0xc082_0500000000000000_00 ((2, 1) ∷ []) hlt 10 0 2 6 0 0 0 ((register, 2, 6) ∷ (register, 8, 0) ∷ [])
+    ∷ case 11 11 0xc002_0500000000000000_00 ((2, 1) ∷ []) hlt 10 0 2 6 0 0 0 ((register, 2, 6) ∷ (register, 0, 0) ∷ [])
+    ∷ case 11 11 0xc0e2_0500000000000000_00 ((2, 1) ∷ []) hlt 10 0 2 6 0 0 0 ((register, 2, 6) ∷ (register, 14, 0) ∷ [])
+    ∷ case 16 3 0xa008_00 ((0, 7) ∷ (4, 16) ∷ []) hlt 2 4 2 6 0 0 0 ((register, 4, 8) ∷ (word, 8, 7) ∷ [])
+    ∷ case 16 3 0xa000_00 ((0, 7) ∷ (4, 16) ∷ []) hlt 2 4 2 6 0 0 0 ((register, 4, 8) ∷ (word, 8, 7) ∷ [])
+    ∷ case 16 3 0xa00e_00 ((0, 7) ∷ (4, 16) ∷ []) hlt 2 4 2 6 0 0 0 ((register, 4, 8) ∷ (word, 8, 7) ∷ [])
+    ∷ case 11 11 0xb018_00_0500000000000000 ((4, 3) ∷ []) hlt 2 4 2 6 0 0 0 ((register, 1, 5) ∷ (register, 8, 0) ∷ (register, 4, 11) ∷ [])
+    ∷ case 11 11 0xb010_00_0500000000000000 ((4, 3) ∷ []) hlt 2 4 2 6 0 0 0 ((register, 1, 5) ∷ (register, 0, 0) ∷ (register, 4, 11) ∷ [])
+    ∷ case 11 11 0xb01e_00_0500000000000000 ((4, 3) ∷ []) hlt 2 4 2 6 0 0 0 ((register, 1, 5) ∷ (register, 14, 0) ∷ (register, 4, 11) ∷ [])
+    -- nor is it a source: pushq rax with filler 3 behind a load of rbx
+    ∷ case 24 13 0x5030_0000000000000000_a003_00 ((4, 24) ∷ []) hlt 12 4 3 7 0 0 0 ((register, 3, 0x3050) ∷ (charged, 2, 0) ∷ (word, 16, 0) ∷ [])
+    -- a named register that is 15: INS, whatever the filler
+    ∷ case 10 10 0x308f_0000000000000000 [] ins 0 4 1 5 0 0 0 []
+    ∷ case 10 10 0xc0ff_0000000000000000 [] ins 0 4 1 5 0 0 0 []
+    ∷ case 2 2 0xa0f8 [] ins 0 4 1 5 0 0 0 []
+    ∷ case 2 2 0xb0ff [] ins 0 4 1 5 0 0 0 []
     -- a function that the table has not: INS
     ∷ case 1 1 0x01 [] ins 0 4 1 5 0 0 0 []
     ∷ case 2 2 0x2700 [] ins 0 4 1 5 0 0 0 []
@@ -52,6 +68,18 @@ cases =
     ∷ case 3 3 0x6001_00 ((0, 1) ∷ (1, 2 ^ 64 - 1) ∷ []) hlt 2 4 2 6 0 0 0 ((register, 1, 0) ∷ [])
     ∷ case 3 3 0x6201_00 ((0, 6) ∷ (1, 3) ∷ []) hlt 2 0 2 6 0 0 0 ((register, 1, 2) ∷ [])
     ∷ case 3 3 0x6301_00 ((0, 6) ∷ (1, 3) ∷ []) hlt 2 0 2 6 0 0 0 ((register, 1, 5) ∷ [])
+    -- iaddq (02, #101): "a lone `c0` is ADR", a function of 1 INS; codes at both ends of the constant
+    ∷ case 1 1 0xc0 [] adr 0 4 1 5 0 0 0 []
+    ∷ case 1 1 0xc1 [] ins 0 4 1 5 0 0 0 []
+    ∷ case 11 11 0xc0f1_0500000000000000_00 ((1, 7) ∷ []) hlt 10 0 2 6 0 0 0 ((register, 1, 12) ∷ [])
+    ∷ case 11 11 0xc0f1_ffffffffffffffff_00 ((1, 1) ∷ []) hlt 10 4 2 6 0 0 0 ((register, 1, 0) ∷ [])
+    ∷ case 11 11 0xc0f1_ffffffffffffff7f_00 ((1, 1) ∷ []) hlt 10 3 2 6 0 0 0 ((register, 1, 2 ^ 63) ∷ [])
+    ∷ case 11 11 0xc0f1_ffffffffffffff7f_00 ((1, 2 ^ 63) ∷ []) hlt 10 2 2 6 0 0 0 ((register, 1, 2 ^ 64 - 1) ∷ [])
+    ∷ case 11 11 0xc0f1_0000000000000080_00 ((1, 2 ^ 64 - 1) ∷ []) hlt 10 1 2 6 0 0 0 ((register, 1, 2 ^ 63 - 1) ∷ [])
+    ∷ case 11 11 0xc0f1_0000000000000080_00 ((1, 2 ^ 63) ∷ []) hlt 10 5 2 6 0 0 0 ((register, 1, 0) ∷ [])
+    -- iaddq is charged 1 behind a load of rB, mrmovq 0(rax), rcx, and not behind one of another register
+    ∷ case 21 21 0x5010_0000000000000000_c0f1_0500000000000000_00 [] hlt 20 0 3 8 1 0 0 ((register, 1, 0x1055) ∷ (charged, 2, 1) ∷ [])
+    ∷ case 21 21 0x5010_0000000000000000_c0f2_0500000000000000_00 [] hlt 20 0 3 7 0 0 0 ((register, 2, 5) ∷ (charged, 2, 0) ∷ [])
     -- the seven conditions, by cmovXX rax after subq rax, rcx: equal, less, greater
     ∷ case 17 17 0x6101_2002_2103_2205_2306_2407_2508_2609_00 ((0, 1) ∷ (1, 1) ∷ []) hlt 16 4 9 13 0 0 0 ((register, 2, 1) ∷ (register, 3, 1) ∷ (register, 5, 0) ∷ (register, 6, 1) ∷ (register, 7, 0) ∷ (register, 8, 1) ∷ (register, 9, 0) ∷ [])
     ∷ case 17 17 0x6101_2002_2103_2205_2306_2407_2508_2609_00 ((0, 1) ∷ (1, 0) ∷ []) hlt 16 2 9 13 0 0 0 ((register, 2, 1) ∷ (register, 3, 1) ∷ (register, 5, 1) ∷ (register, 6, 0) ∷ (register, 7, 1) ∷ (register, 8, 0) ∷ (register, 9, 0) ∷ [])

@@ -11,6 +11,7 @@ use lib.ListN.{getD, set, replicate, take}
 use Rattle.machine.specs.Types.{statusNumber, codesNumber, isBad}
 use Rattle.machine.specs.Words.{number}
 use Rattle.machine.specs.Memory.{Memory, Registers}
+use Rattle.machine.specs.Table.{unknownByte}
 use Rattle.machine.specs.Plain.{Plain, plainOf, plainStart, isStopped, step}
 use Rattle.clocked.specs.Prediction.{core01, asIn01}
 use Rattle.clocked.specs.Charges.{due}
@@ -99,9 +100,9 @@ from m rsp = record { settings = asIn01; registers = set (replicate 15 0) 4 rsp;
 abbrev pub halt : Start
 halt = from (0x00 ∷ []) 0
 
--- P3: INS
+-- a code without functions: INS
 abbrev pub unknown : Start
-unknown = from (0xc0 ∷ []) 0
+unknown = from (unknownByte ∷ []) 0
 
 -- nop, halt
 abbrev pub nop : Start
@@ -351,7 +352,7 @@ pub pipe-idles-disagrees : Disagrees pipeIdles halt 5
 unfolding PipeFoul
 pipe-idles-disagrees i a = differs itself 0 5 refl (agreed _ _ _ _ a)
 
--- after any number of clocks: of `c0` the plain engine performs one instruction, and stops with INS
+-- after any number of clocks: of a code without functions the plain engine performs one instruction, and stops with INS
 pub pipe-halts-disagrees : (f : PipeReplay) (c : ℕ) → Disagrees (pipeHalts f) unknown c
 unfolding PipeFoul plainFrom
 pipe-halts-disagrees f c zero a = differs statusNumber 2 1 refl (a .status)

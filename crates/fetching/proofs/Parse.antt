@@ -1,6 +1,6 @@
 -- Fetch: one law for each of the checks, in their order. Assumes nothing.
 use mathlib.Core.Path.{_≡_, refl, ap, _∙_}
-use mathlib.Core.Bool.{Bool, true, false, cond, not}
+use mathlib.Core.Bool.{Bool, true, false, cond, not, _||_}
 use mathlib.Core.List.{List}
 use Prim.Native.Nat.{ℕ, _+_, _-_, _/_, _%_, _≤_, _<_}
 use native.Mathlib.Omega.{arith}
@@ -12,40 +12,44 @@ use Rattle.machine.specs.declared.Instruction.{Instruction}
 use Rattle.machine.specs.Words.{sum, number}
 use Rattle.machine.specs.Memory.{Memory, lent, size, inside, load}
 use Rattle.machine.specs.Table.{rowOf, RegisterByte, noByte, bothNamed, onlyB, onlyA}
-use Rattle.machine.specs.Fetch.{stopping, halvesFit, half, checked, fetch}
+use Rattle.machine.specs.Fetch.{stopping, namesA, namesB, misnamed, half, checked, fetch}
 use Rattle.machine.specs.Runs.{sizeRefused, lowest, fetchAnswer}
 use Rattle.published.specs.Lengths.{hasRegisterByte, length-rule, two}
 use Rattle.published.specs.Fetching.{M₁, M₈, aokAt, fetch-is}
 use Rattle.lookup.specs.Numbers.{byteNumber}
-use Rattle.fetching.specs.Halves.{halvesFitBy}
+use Rattle.fetching.specs.Halves.{misnamedBy, filledBy}
 
 abbrev codeAt : Memory → ℕ → ℕ
 codeAt m a = M₁ m a / 16
 
--- the halves of the byte as the code takes it: F:F where there is none
-high : (y : RegisterByte) (x : ℕ) → cond (eqb (byteNumber y) 0) 255 x / 16 ≡ half y (x / 16)
-unfolding byteNumber half
+-- the halves of the byte as the code takes it
+high : (y : RegisterByte) (x : ℕ) → filledBy (byteNumber y) x / 16 ≡ half (namesA y) (x / 16)
+unfolding filledBy byteNumber namesA half
 high noByte x = refl
 high bothNamed x = refl
-high onlyB x = refl
-high onlyA x = refl
+high onlyB x = omega arith
+high onlyA x = omega arith
 
-low : (y : RegisterByte) (x : ℕ) → cond (eqb (byteNumber y) 0) 255 x % 16 ≡ half y (x % 16)
-unfolding byteNumber half
+low : (y : RegisterByte) (x : ℕ) → filledBy (byteNumber y) x % 16 ≡ half (namesB y) (x % 16)
+unfolding filledBy byteNumber namesB half
 low noByte x = refl
 low bothNamed x = refl
-low onlyB x = refl
-low onlyA x = refl
+low onlyB x = omega arith
+low onlyA x = omega arith
 
-fits-by : (y : RegisterByte) (a b : ℕ) → halvesFitBy (byteNumber y) a b ≡ halvesFit y a b
-unfolding halvesFitBy byteNumber halvesFit
-fits-by noByte a b = refl
-fits-by bothNamed a b = refl
-fits-by onlyB a b = refl
-fits-by onlyA a b = refl
+or-false : (b : Bool) → b ≡ b || false
+or-false true = refl
+or-false false = refl
+
+misnamed-by : (y : RegisterByte) (a b : ℕ) → misnamedBy (byteNumber y) a b ≡ misnamed y a b
+unfolding misnamedBy byteNumber misnamed namesA namesB
+misnamed-by noByte a b = refl
+misnamed-by bothNamed a b = refl
+misnamed-by onlyB a b = refl
+misnamed-by onlyA a b = or-false (eqb a 15)
 
 named : (y : RegisterByte) → (byteNumber y ≡ 0 → ⊥) → T (hasRegisterByte y)
-unfolding byteNumber hasRegisterByte
+unfolding byteNumber hasRegisterByte namesA namesB
 named noByte h = absurd (h refl)
 named bothNamed h = tt
 named onlyB h = tt
@@ -80,7 +84,7 @@ module _ (m : Memory) (a f : ℕ) (h : a < size m) (ef : f ≡ rowOf (codeAt m a
         cc (fetch-is m a, lt-leb (size m) a h, in-table, lt-ltb (size m) (a + z) (omega arith))
 
     module _ (y b : ℕ) (t : Bool) (q : not (leb z (size m - a)) ≡ false) (ey : y ≡ byteNumber (rowOf (codeAt m a) .byte))
-        (eb : b ≡ cond (eqb y 0) 255 (M₁ m (a + 1))) (et : t ≡ halvesFitBy y (b / 16) (b % 16)) where
+        (eb : b ≡ filledBy y (M₁ m (a + 1))) (et : t ≡ misnamedBy y (b / 16) (b % 16)) where
       high-is : b / 16 ≡ aokAt m a (codeAt m a) .ra
       unfolding aokAt
       high-is = cc (high (rowOf (codeAt m a) .byte) (M₁ m (a + 1)))
@@ -89,28 +93,28 @@ module _ (m : Memory) (a f : ℕ) (h : a < size m) (ef : f ≡ rowOf (codeAt m a
       unfolding aokAt
       low-is = cc (low (rowOf (codeAt m a) .byte) (M₁ m (a + 1)))
 
-      fit : not (halvesFit (rowOf (codeAt m a) .byte) (aokAt m a (codeAt m a) .ra) (aokAt m a (codeAt m a) .rb)) ≡ not t
-      fit = cc (fits-by (rowOf (codeAt m a) .byte) (b / 16) (b % 16), high-is, low-is)
+      tested : misnamed (rowOf (codeAt m a) .byte) (aokAt m a (codeAt m a) .ra) (aokAt m a (codeAt m a) .rb) ≡ t
+      tested = cc (misnamed-by (rowOf (codeAt m a) .byte) (b / 16) (b % 16), high-is, low-is)
 
       long : ltb (size m) (a + rowOf (codeAt m a) .size) ≡ false
       long = le-ltb (size m) (a + rowOf (codeAt m a) .size) (omega (arith, room z (size m - a) q))
 
       -- the checks that are passed
-      through : fetch m a ≡ checked false false false (not t) (eqb (codeAt m a) 0) (aokAt m a (codeAt m a))
+      through : fetch m a ≡ checked false false false t (eqb (codeAt m a) 0) (aokAt m a (codeAt m a))
       unfolding aokAt
       through =
           fetch-is m a ∙ rw (lt-leb (size m) a h, ← ef, in-table, long)
-          (ap (λ (x : Bool). checked false false false x (eqb (codeAt m a) 0) (aokAt m a (codeAt m a))) fit)
+          (ap (λ (x : Bool). checked false false false x (eqb (codeAt m a) 0) (aokAt m a (codeAt m a))) tested)
 
-      pub misnamed : (r : Instruction) → not t ≡ true → r ≡ stopping a ins → r ≡ fetch m a
+      pub names-none : (r : Instruction) → t ≡ true → r ≡ stopping a ins → r ≡ fetch m a
       unfolding checked aokAt
-      misnamed r k e = cc through
+      names-none r k e = cc through
 
-      pub halts : (r : Instruction) → not t ≡ false → codeAt m a ≡ 0 → r ≡ stopping a hlt → r ≡ fetch m a
+      pub halts : (r : Instruction) → t ≡ false → codeAt m a ≡ 0 → r ≡ stopping a hlt → r ≡ fetch m a
       unfolding checked aokAt
       halts r k o e = cc (through, eq-eqb (codeAt m a) 0 o)
 
-      pub fetches : (c n : ℕ) → not t ≡ false → (codeAt m a ≡ 0 → ⊥) → c ≡ cond (ltb 8 z) (M₈ m (a + (z - 8))) 0 → n ≡ sum a z
+      pub fetches : (c n : ℕ) → t ≡ false → (codeAt m a ≡ 0 → ⊥) → c ≡ cond (ltb 8 z) (M₈ m (a + (z - 8))) 0 → n ≡ sum a z
           → record { address = a; status = aok; code = codeAt m a; function = M₁ m a % 16; ra = b / 16; rb = b % 16; constant = c; next = n } ≡ fetch m a
       unfolding checked aokAt
       fetches c n k o ec en = cc (through, ne-eqb (codeAt m a) 0 o, high-is, low-is)

@@ -22,7 +22,7 @@ ghost use Rattle.machine.specs.Memory.{lent};
 ghost use Rattle.machine.specs.Words.{number};
 ghost use Rattle.machine.specs.Fetch.{fetch as fetchOf, stopping as stoppingOf};
 ghost use Rattle.machine.specs.Runs.{fetchAnswer};
-ghost use Rattle.fetching.specs.Halves.{halvesFitBy};
+ghost use Rattle.fetching.specs.Halves.{misnamedBy, filledBy};
 
 // An instruction fetched with a bad status travels as a nop with that status.
 fn stopping(address: u64, status: Status) -> Instruction
@@ -40,29 +40,41 @@ fn stopping(address: u64, status: Status) -> Instruction
     }
 }
 
-// Named registers are not 15, and fillers are F.
-fn halves_fit(byte: u8, a: u8, b: u8) -> bool
-    ensures { λ r. ⌜ r ≡ halvesFitBy byte a b ⌝ }
+// A named register that is 15.
+fn misnamed(byte: u8, a: u8, b: u8) -> bool
+    ensures { λ r. ⌜ r ≡ misnamedBy byte a b ⌝ }
 {
     match byte {
-        BOTH_NAMED => (a < NONE) & (b < NONE),
-        ONLY_B => (a == NONE) & (b < NONE),
-        ONLY_A => (a < NONE) & (b == NONE),
-        _ => true,
+        BOTH_NAMED => (a == NONE) | (b == NONE),
+        ONLY_B => b == NONE,
+        ONLY_A => a == NONE,
+        _ => false,
     }
 }
 
 // F:F, which names no register.
 const NONE_NAMED: u8 = 255;
 
-// The register byte where there is one, else one that names none.
+// The register byte with F in place of its filler.
+fn filled(byte: u8, pair: u8) -> u8
+    ensures { λ r. ⌜ r ≡ filledBy byte pair ⌝ }
+{
+    match byte {
+        BOTH_NAMED => pair,
+        ONLY_B => 240 + pair % 16,
+        ONLY_A => pair / 16 * 16 + 15,
+        _ => NONE_NAMED,
+    }
+}
+
+// The register byte where there is one, its filler not looked at, else one that names none.
 fn register_byte(memory: &[u8], at: usize, byte: u8) -> u8
     requires { ⌜ ((byte ≡ 0 → ⊥) → at + 1 < length (now memory)) ⌝ }
-    ensures { λ r. ⌜ r ≡ cond (eqb byte 0) 255 (getD (now (memory .entry)) (at + 1) 0) ⌝ }
+    ensures { λ r. ⌜ r ≡ filledBy byte (getD (now (memory .entry)) (at + 1) 0) ⌝ }
 {
     match byte {
         NO_BYTE => NONE_NAMED,
-        _ => memory[at + 1],
+        _ => filled(byte, memory[at + 1]),
     }
 }
 
@@ -103,8 +115,8 @@ pub fn instruction_at(memory: &[u8], address: u64) -> Instruction
     let pair = register_byte(memory, at, byte);
     let ra = pair / 16;
     let rb = pair % 16;
-    if !halves_fit(byte, ra, rb) {
-        return stopping(address, Status::Ins); // a register or a filler
+    if misnamed(byte, ra, rb) {
+        return stopping(address, Status::Ins); // a register
     }
     if code == HALT {
         return stopping(address, Status::Hlt);

@@ -4,6 +4,8 @@ use crate::numbers::B_OP_A;
 use crate::numbers::B_PLUS_8;
 use crate::numbers::B_PLUS_C;
 use crate::numbers::BOTH_NAMED;
+use crate::numbers::BY_OP;
+use crate::numbers::BY_SUM;
 use crate::numbers::IN_RA;
 use crate::numbers::IN_RB;
 use crate::numbers::IN_RSP;
@@ -13,6 +15,7 @@ use crate::numbers::LOADS_AT_A;
 use crate::numbers::LOADS_AT_E;
 use crate::numbers::NO_ACCESS;
 use crate::numbers::NO_BYTE;
+use crate::numbers::NO_CODES;
 use crate::numbers::NO_REGISTER;
 use crate::numbers::NOTHING;
 use crate::numbers::ONLY_A;
@@ -35,7 +38,7 @@ pub const SIZES: [u8; ROWS] = [
     1, // ret
     2, // pushq
     2, // popq
-    1, // C
+    10, // iaddq
     1, // D
     1, // E
     1, // F
@@ -55,7 +58,7 @@ pub const FUNCTIONS: [u8; ROWS] = [
     1, // ret
     1, // pushq
     1, // popq
-    0, // C
+    1, // iaddq
     0, // D
     0, // E
     0, // F
@@ -75,7 +78,7 @@ pub const BYTES: [u8; ROWS] = [
     NO_BYTE, // ret
     ONLY_A, // pushq
     ONLY_A, // popq
-    NO_BYTE, // C
+    ONLY_B, // iaddq
     NO_BYTE, // D
     NO_BYTE, // E
     NO_BYTE, // F
@@ -95,7 +98,7 @@ pub const A_FROM: [u8; ROWS] = [
     IN_RSP, // ret
     IN_RA, // pushq
     IN_RSP, // popq
-    NO_REGISTER, // C
+    NO_REGISTER, // iaddq
     NO_REGISTER, // D
     NO_REGISTER, // E
     NO_REGISTER, // F
@@ -115,7 +118,7 @@ pub const B_FROM: [u8; ROWS] = [
     IN_RSP, // ret
     IN_RSP, // pushq
     IN_RSP, // popq
-    NO_REGISTER, // C
+    IN_RB, // iaddq
     NO_REGISTER, // D
     NO_REGISTER, // E
     NO_REGISTER, // F
@@ -135,10 +138,30 @@ pub const COMPUTES: [u8; ROWS] = [
     B_PLUS_8, // ret
     B_LESS_8, // pushq
     B_PLUS_8, // popq
-    NOTHING, // C
+    B_PLUS_C, // iaddq
     NOTHING, // D
     NOTHING, // E
     NOTHING, // F
+];
+
+// What sets the codes.
+pub const SETS: [u8; ROWS] = [
+    NO_CODES, // halt
+    NO_CODES, // nop
+    NO_CODES, // cmovXX
+    NO_CODES, // irmovq
+    NO_CODES, // rmmovq
+    NO_CODES, // mrmovq
+    BY_OP, // OPq
+    NO_CODES, // jXX
+    NO_CODES, // call
+    NO_CODES, // ret
+    NO_CODES, // pushq
+    NO_CODES, // popq
+    BY_SUM, // iaddq
+    NO_CODES, // D
+    NO_CODES, // E
+    NO_CODES, // F
 ];
 
 // What the memory stage does.
@@ -155,7 +178,7 @@ pub const ACCESSES: [u8; ROWS] = [
     LOADS_AT_A, // ret
     STORES_A, // pushq
     LOADS_AT_A, // popq
-    NO_ACCESS, // C
+    NO_ACCESS, // iaddq
     NO_ACCESS, // D
     NO_ACCESS, // E
     NO_ACCESS, // F
@@ -175,7 +198,7 @@ pub const TARGETS: [u8; ROWS] = [
     IN_RSP, // ret
     IN_RSP, // pushq
     IN_RSP, // popq
-    NO_REGISTER, // C
+    IN_RB, // iaddq
     NO_REGISTER, // D
     NO_REGISTER, // E
     NO_REGISTER, // F
@@ -195,7 +218,7 @@ pub const LOADED: [u8; ROWS] = [
     NO_REGISTER, // ret
     NO_REGISTER, // pushq
     IN_RA, // popq
-    NO_REGISTER, // C
+    NO_REGISTER, // iaddq
     NO_REGISTER, // D
     NO_REGISTER, // E
     NO_REGISTER, // F

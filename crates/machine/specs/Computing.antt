@@ -14,8 +14,8 @@ unfolding
     Words.sum Words.difference Words.number Words.placed Words.signed Words.outside
     Memory.inside Memory.load Memory.store Memory.value Memory.written
     Table.table Table.rowOf Table.is
-    Fetch.sizeAt Fetch.ownBytes Fetch.stopping Fetch.halvesFit Fetch.checked Fetch.half Fetch.constantIn Fetch.parsed Fetch.fetch
-    Stages.register Stages.sourceA Stages.sourceB Stages.decode Stages.operated Stages.overflows Stages.operatedCodes Stages.newCodes Stages.condition
+    Fetch.sizeAt Fetch.ownBytes Fetch.stopping Fetch.namesA Fetch.namesB Fetch.misnamed Fetch.checked Fetch.half Fetch.constantIn Fetch.parsed Fetch.fetch
+    Stages.register Stages.sourceA Stages.sourceB Stages.decode Stages.operated Stages.overflows Stages.operatedCodes Stages.codesBy Stages.newCodes Stages.condition
     Stages.computed Stages.result Stages.outcome Stages.execute Stages.loading Stages.storing Stages.loads Stages.stores Stages.addressed
     Stages.accessAddress Stages.stored Stages.storedWord Stages.accessStatus Stages.access Stages.newMemory Stages.resultTarget Stages.loadedTarget
     Stages.newRegisters Stages.turned Stages.straight Stages.nextAddress

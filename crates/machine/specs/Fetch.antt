@@ -1,6 +1,6 @@
 -- Fetching an instruction: its own bytes alone decide.
 use Prim.Native.Nat.{ℕ, _-_, _/_, _%_}
-use mathlib.Core.Bool.{Bool, true, false, cond, not, _&&_}
+use mathlib.Core.Bool.{Bool, true, false, cond, _&&_, _||_}
 use mathlib.Core.List.{List}
 use lib.Dec.{ltb, leb, eqb}
 use lib.ListN.{length, getD, take, drop}
@@ -21,15 +21,25 @@ ownBytes m a = take (sizeAt m a) (drop a (m .bytes))
 unfoldable pub stopping : ℕ → Status → Instruction
 stopping a s = record { address = a; status = s; code = 1; function = 0; ra = 15; rb = 15; constant = 0; next = a }
 
--- "a named register" is not 15, and "a filler" is F
-unfoldable pub halvesFit : RegisterByte → ℕ → ℕ → Bool
-halvesFit noByte a b = true
-halvesFit bothNamed a b = ltb a 15 && ltb b 15
-halvesFit onlyB a b = eqb a 15 && ltb b 15
-halvesFit onlyA a b = ltb a 15 && eqb b 15
+-- which halves of the register byte name a register; one that does not is a filler, and where there is no such byte none does
+unfoldable pub namesA : RegisterByte → Bool
+namesA noByte = false
+namesA bothNamed = true
+namesA onlyB = false
+namesA onlyA = true
+
+unfoldable pub namesB : RegisterByte → Bool
+namesB noByte = false
+namesB bothNamed = true
+namesB onlyB = true
+namesB onlyA = false
+
+-- "Fillers are not looked at .. only a named register of 15 is INS" (02, #102)
+unfoldable pub misnamed : RegisterByte → ℕ → ℕ → Bool
+misnamed y a b = (namesA y && eqb a 15) || (namesB y && eqb b 15)
 
 -- "Fetch checks in order: first byte outside memory, ADR; code or function not in the table, INS; a later byte outside memory, ADR;
--- a named register that is 15, or a filler that isn't F, INS. Only then is 0x00 HLT."
+-- a named register that is 15 .. INS. Only then is 0x00 HLT."
 unfoldable pub checked : (firstMissing noFunction laterMissing misnamed halts : Bool) → Instruction → Instruction
 checked true f l r h i = stopping (i .address) adr
 checked false true l r h i = stopping (i .address) ins
@@ -38,12 +48,9 @@ checked false false false true h i = stopping (i .address) ins
 checked false false false false true i = stopping (i .address) hlt
 checked false false false false false i = i
 
--- a half of the register byte, or 15, "none", where there is no such byte
-unfoldable pub half : RegisterByte → ℕ → ℕ
-half noByte x = 15
-half bothNamed x = x
-half onlyB x = x
-half onlyA x = x
+-- a half of the register byte, if it names a register, else 15, "none", whatever the filler is
+unfoldable pub half : Bool → ℕ → ℕ
+half named x = cond named x 15
 
 -- "an 8-byte constant C": the last eight bytes of an instruction that is longer than that
 unfoldable pub constantIn : List ℕ → ℕ → ℕ
@@ -55,9 +62,9 @@ parsed a bytes =
     let code = getD bytes 0 0 / 16 in
     let function = getD bytes 0 0 % 16 in
     let row = rowOf code in
-    let x = half (row .byte) (getD bytes 1 0 / 16) in
-    let y = half (row .byte) (getD bytes 1 0 % 16) in
-    checked (eqb (length bytes) 0) (leb (row .functions) function) (ltb (length bytes) (row .size)) (not (halvesFit (row .byte) x y)) (eqb code 0)
+    let x = half (namesA (row .byte)) (getD bytes 1 0 / 16) in
+    let y = half (namesB (row .byte)) (getD bytes 1 0 % 16) in
+    checked (eqb (length bytes) 0) (leb (row .functions) function) (ltb (length bytes) (row .size)) (misnamed (row .byte) x y) (eqb code 0)
     (record { address = a; status = aok; code = code; function = function; ra = x; rb = y; constant = constantIn bytes (row .size); next = sum a (row .size) })
 
 unfoldable pub fetch : Memory → ℕ → Instruction

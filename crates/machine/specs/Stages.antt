@@ -11,8 +11,9 @@ use mir.Syntax.{w64}
 use Rattle.machine.specs.Types.{Instruction, Decoded, Executed, Accessed, Codes, Status, adr, isBad}
 use Rattle.machine.specs.Words.{sum, difference, signed, outside}
 use Rattle.machine.specs.Memory.{Memory, Registers, inside, load, store, written}
-use Rattle.machine.specs.Table.{rowOf, is, cmov, operation, jump, call, ret, Which, none, rA, rB, rsp}
+use Rattle.machine.specs.Table.{rowOf, is, cmov, jump, call, ret, Which, none, rA, rB, rsp}
 use Rattle.machine.specs.Table.{Computes, nothing, bOpA, justA, justC, bPlusC, bLess8, bPlus8}
+use Rattle.machine.specs.Table.{Sets, noCodes, byOp, bySum}
 use Rattle.machine.specs.Table.{Accesses, noAccess, loadsAtE, loadsAtA, storesA, storesNext}
 
 -- the number of a register of the instruction; "15 means none", and rsp is 4
@@ -23,7 +24,7 @@ register rB i = i .rb
 register rsp i = 4
 
 -- DECODE
--- "Sources: cmov rA; rmmovq, OPq rA and rB; mrmovq rB; pushq rA and rsp; popq, call, ret rsp; others none."
+-- "Sources: cmov rA; rmmovq, OPq rA and rB; mrmovq rB; pushq rA and rsp; popq, call, ret rsp; others none." Of iaddq "its source is rB" (02, #101).
 -- "An instruction with bad fetch status has no sources."
 unfoldable pub sourceA : Instruction → ℕ
 sourceA i = cond (isBad (i .status)) 15 (register (rowOf (i .code) .a) i)
@@ -44,15 +45,24 @@ operated function a b = getD (sum b a ∷ difference b a ∷ bitAnd b a ∷ bitX
 unfoldable pub overflows : ℕ → ℕ → ℕ → Bool
 overflows function a b = getD (outside w64 (signed b +ℤ signed a) ∷ outside w64 (signed b -ℤ signed a) ∷ []) function false
 
+-- addq's function
+abbrev addition : ℕ
+addition = 0
+
 -- "ZF: result zero. SF: result negative."
 unfoldable pub operatedCodes : ℕ → ℕ → ℕ → Codes
 operatedCodes function a b =
     let r = operated function a b in
     record { zf = eqb r 0; sf = ltZ (signed r) (pos 0); of = overflows function a b }
 
--- "Only OPq sets codes."
+-- "Only OPq sets codes", and iaddq, which "sets codes when and as addq does" (02, #101): as an addition, whatever function it holds
+unfoldable pub codesBy : Sets → Decoded → Codes → Codes
+codesBy noCodes x c = c
+codesBy byOp x c = operatedCodes (x .instruction .function) (x .a) (x .b)
+codesBy bySum x c = operatedCodes addition (x .instruction .constant) (x .b)
+
 unfoldable pub newCodes : Decoded → Codes → Codes
-newCodes x c = cond (is operation (x .instruction)) (operatedCodes (x .instruction .function) (x .a) (x .b)) c
+newCodes x c = codesBy (rowOf (x .instruction .code) .sets) x c
 
 -- "Conditions 0 to 6: always; le (SF≠OF or ZF); l (SF≠OF); e (ZF); ne; ge (SF=OF); g (SF=OF and not ZF)."
 unfoldable pub condition : ℕ → Codes → Bool

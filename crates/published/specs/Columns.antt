@@ -8,8 +8,8 @@ use lib.Seq.{set-set}
 use Rattle.machine.specs.Types.{isBad}
 use Rattle.machine.specs.Words.{sum, difference, placed}
 use Rattle.machine.specs.Memory.{Memory, lent, size, Registers, inside, load, store, value, written}
-use Rattle.machine.specs.Table.{table, rowOf, is}
-use Rattle.machine.specs.Fetch.{half, stopping}
+use Rattle.machine.specs.Table.{table, rowOf, is, unknownCode}
+use Rattle.machine.specs.Fetch.{namesA, namesB, half, stopping}
 use Rattle.machine.specs.Stages
 use Rattle.machine.specs.Stages.{decode, execute, access, newCodes, newMemory, newRegisters, nextAddress}
 use Rattle.machine.specs.Stages.{operated, operatedCodes, condition, loads, stores, accessAddress, accessStatus}
@@ -91,10 +91,10 @@ step-of s i r e a = rw (r, e) (decided (loads i || stores i) (inside (s .memory)
 
 -- the same of the instruction at the program address
 unfoldable columnOf : Plain → ℕ → Plain
-unfolding rowOf table is half value written Stages.register Stages.sourceA Stages.sourceB decode
+unfolding rowOf table is namesA namesB half value written Stages.register Stages.sourceA Stages.sourceB decode
     Stages.computed Stages.result Stages.outcome execute
     Stages.loading Stages.storing loads stores Stages.addressed accessAddress Stages.stored Stages.storedWord access
-    newCodes newMemory Stages.resultTarget Stages.loadedTarget newRegisters Stages.turned Stages.straight nextAddress isBad stepOf aokAt
+    Stages.codesBy newCodes newMemory Stages.resultTarget Stages.loadedTarget newRegisters Stages.turned Stages.straight nextAddress isBad stepOf aokAt
 columnOf s code = stepOf s (aokAt (s .memory) (PC s) code)
 
 column : (s : Plain) (code : ℕ) → At s code → step s ≡ columnOf s code
@@ -108,6 +108,13 @@ pub OPq : (s : Plain) → At s 6
     step s ≡ after s (gets s (rB s) valE) (operatedCodes (ifun s) (R s (rA s)) (R s (rB s))) (s .memory) (sum (PC s) 2) aok
 unfolding columnOf
 OPq s h = column s 6 h
+
+-- iaddq V, rB, which 003 does not have (02, #101): valE ← R[rB] + valC; set CC as addq does; R[rB] ← valE; PC ← PC+10
+pub iaddq : (s : Plain) → At s 12
+    → let valC = M₈ (s .memory) (PC s + 2) in
+    step s ≡ after s (gets s (rB s) (sum (R s (rB s)) valC)) (operatedCodes 0 valC (R s (rB s))) (s .memory) (sum (PC s) 10) aok
+unfolding columnOf
+iaddq s h = column s 12 h
 
 -- cmovXX rA, rB: R[rB] ← R[rA], if Cond(CC, ifun); PC ← PC+2
 pub cmovXX : (s : Plain) → At s 2
@@ -183,8 +190,8 @@ pub nop : (s : Plain) → At s 1 → step s ≡ after s (s .machine .registers) 
 unfolding columnOf
 nop s h = column s 1 h
 
--- and there is no other: whatever a running machine fetches with AOK is at one of these columns, codes 1 to 11
-pub some-column : (s : Plain) → isStopped s ≡ false → fetched s .status ≡ aok → (1 ≤ icode s) × (icode s ≤ 11) × At s (icode s)
+-- and there is no other: whatever a running machine fetches with AOK is at one of these columns, from code 1 to the last with functions
+pub some-column : (s : Plain) → isStopped s ≡ false → fetched s .status ≡ aok → (1 ≤ icode s) × (icode s < unknownCode) × At s (icode s)
 unfolding fetched
 some-column s r e =
     let code = aok-code (s .memory) (PC s) e in

@@ -1,7 +1,7 @@
 -- The fetch row of the columns: what an instruction that is fetched with AOK is, by the bytes from the program address on.
 use Prim.Native.Nat.{ℕ, zero, suc, min, _+_, _-_, _/_, _%_, _<_, _≤_}
 use mathlib.Core.Path.{_≡_, refl, sym, ap, _∙_}
-use mathlib.Core.Bool.{Bool, true, false, cond, not}
+use mathlib.Core.Bool.{Bool, true, false, cond, _||_}
 use mathlib.Core.List.{[], _∷_}
 use native.Mathlib.Nat.{add-zero, add-assoc, lt-of-not-le}
 use native.Mathlib.Omega.{arith}
@@ -12,8 +12,8 @@ use lib.Seq.{getD-take, getD-drop, drop-cons}
 use Rattle.machine.specs.Types.{isBad}
 use Rattle.machine.specs.Words.{sum, number}
 use Rattle.machine.specs.Memory.{Memory, size}
-use Rattle.machine.specs.Table.{rowOf, table, RegisterByte, noByte, bothNamed, onlyB, onlyA}
-use Rattle.machine.specs.Fetch.{sizeAt, ownBytes, stopping, checked, half, constantIn, parsed, fetch, halvesFit}
+use Rattle.machine.specs.Table.{rowOf, table, unknownCode}
+use Rattle.machine.specs.Fetch.{sizeAt, ownBytes, stopping, checked, namesA, namesB, half, constantIn, parsed, fetch, misnamed}
 use Rattle.published.specs.Names.{Status, aok, hlt, Instruction}
 use Rattle.published.specs.Lengths.{length-rule, no-functions, two, parts, hasRegisterByte}
 
@@ -37,8 +37,8 @@ aokAt m a code =
       status = aok;
       code = code;
       function = M₁ m a % 16;
-      ra = half (row .byte) (M₁ m (a + 1) / 16);
-      rb = half (row .byte) (M₁ m (a + 1) % 16);
+      ra = half (namesA (row .byte)) (M₁ m (a + 1) / 16);
+      rb = half (namesB (row .byte)) (M₁ m (a + 1) % 16);
       constant = constantAt m a (row .size);
       next = sum a (row .size);
     }
@@ -52,14 +52,20 @@ unfolding number
 own-number zero m a n j h = refl
 own-number (suc k) m a n j h = rw (own m a n j (omega arith), own-number k m a n (j + 1) (omega arith), add-assoc)
 
-half-same : (y : RegisterByte) (x x′ : ℕ) → (T (hasRegisterByte y) → x ≡ x′) → half y x ≡ half y x′
-unfolding half hasRegisterByte
-half-same noByte x x′ e = refl
-half-same bothNamed x x′ e = e tt
-half-same onlyB x x′ e = e tt
-half-same onlyA x x′ e = e tt
+pub half-same : (named : Bool) (x x′ : ℕ) → (T named → x ≡ x′) → half named x ≡ half named x′
+unfolding half
+half-same true x x′ e = e tt
+half-same false x x′ e = refl
 
-cond-same : (b : Bool) (x x′ y : ℕ) → (T b → x ≡ x′) → cond b x y ≡ cond b x′ y
+-- a half that names a register is one of a byte that is there
+there-A : (a b : Bool) → T a → T (a || b)
+there-A true b t = tt
+
+there-B : (a b : Bool) → T b → T (a || b)
+there-B true b t = tt
+there-B false b t = t
+
+pub cond-same : (b : Bool) (x x′ y : ℕ) → (T b → x ≡ x′) → cond b x y ≡ cond b x′ y
 cond-same true x x′ y e = e tt
 cond-same false x x′ y e = refl
 
@@ -87,8 +93,8 @@ pub fetch-is : (m : Memory) (a : ℕ)
     → let code = M₁ m a / 16 in
     let i = aokAt m a code in
     fetch m a ≡ checked (leb (size m) a) (leb (rowOf code .functions) (i .function)) (ltb (size m) (a + rowOf code .size))
-    (not (halvesFit (rowOf code .byte) (i .ra) (i .rb))) (eqb code 0) i
-unfolding fetch parsed ownBytes sizeAt aokAt constantIn parts
+    (misnamed (rowOf code .byte) (i .ra) (i .rb)) (eqb code 0) i
+unfolding fetch parsed ownBytes sizeAt aokAt constantIn parts hasRegisterByte
 fetch-is m a =
     let row = rowOf (M₁ m a / 16) in
     let n = row .size in
@@ -99,8 +105,8 @@ fetch-is m a =
     (cc (
       none-own m a n (omega arith),
       few-own m a n (omega arith),
-      half-same (row .byte) _ _ (λ t. ap (_/ 16) (second t)),
-      half-same (row .byte) _ _ (λ t. ap (_% 16) (second t)),
+      half-same (namesA (row .byte)) _ _ (λ t. ap (_/ 16) (second (there-A (namesA (row .byte)) (namesB (row .byte)) t))),
+      half-same (namesB (row .byte)) _ _ (λ t. ap (_% 16) (second (there-B (namesA (row .byte)) (namesB (row .byte)) t))),
       cond-same (ltb 8 n) _ _ 0 (λ t. own-number 8 m a n (n - 8) (omega (arith, ltb→lt 8 n t))),
     ))
 
@@ -118,15 +124,15 @@ checked-aok false false false false false i e = (refl, refl, refl)
 pub fetch-aok : (m : Memory) (a : ℕ) → fetch m a .status ≡ aok → fetch m a ≡ aokAt m a (M₁ m a / 16)
 fetch-aok m a e = fetch-is m a ∙ checked-aok _ _ _ _ _ _ (ap (λ i. i .status) (sym (fetch-is m a)) ∙ e) .0
 
--- and its code is one of 1 to 11: it has functions, and is no halt
-pub aok-code : (m : Memory) (a : ℕ) → fetch m a .status ≡ aok → (1 ≤ M₁ m a / 16) × (M₁ m a / 16 ≤ 11)
+-- and its code has functions, and is no halt
+pub aok-code : (m : Memory) (a : ℕ) → fetch m a .status ≡ aok → (1 ≤ M₁ m a / 16) × (M₁ m a / 16 < unknownCode)
 unfolding aokAt
 aok-code m a e =
     let code = M₁ m a / 16 in
     let passed = checked-aok _ _ _ _ _ _ (ap (λ i. i .status) (sym (fetch-is m a)) ∙ e) in
     let some : 0 < code = lt-of-not-le (λ h. eqb-false code 0 (passed .2) (omega arith)) in
-    let known : code < 12 = lt-of-not-le (λ h. omega (arith, leb-false (rowOf code .functions) (M₁ m a % 16) (passed .1), no-functions code h)) in
-    (omega arith, omega arith)
+    let known : code < unknownCode = lt-of-not-le (λ h. omega (arith, leb-false (rowOf code .functions) (M₁ m a % 16) (passed .1), no-functions code h)) in
+    (omega arith, known)
 
 -- a bad status is that of a nop that goes nowhere
 checked-bad : (f n l r h : Bool) (i : Instruction) (bad : Status) → i .status ≡ aok → isBad bad ≡ true → checked f n l r h i .status ≡ bad
@@ -145,6 +151,6 @@ fetch-bad m a bad b e = checked-bad _ _ _ _ _ _ bad refl b e
 
 -- "Only then is 0x00 HLT."
 pub fetch-halt : (m : Memory) (a : ℕ) → a < size m → M₁ m a ≡ 0 → fetch m a .status ≡ hlt
-unfolding fetch parsed ownBytes sizeAt checked stopping halvesFit rowOf table
+unfolding fetch parsed ownBytes sizeAt checked stopping misnamed namesA namesB rowOf table
 fetch-halt m a h e =
     ap (λ b. parsed a b .status) (ap (λ b. take (rowOf (b / 16) .size) (drop a (m .bytes))) e ∙ ap (take 1) (drop-cons (m .bytes) a 0 h) ∙ ap (_∷ []) e)

@@ -2,4 +2,5 @@
 pub mod Names
 pub mod Lengths
 pub mod Fetching
+pub mod Fillers
 pub mod Columns

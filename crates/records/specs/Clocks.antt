@@ -9,7 +9,7 @@ use Rattle.clocked.specs.Pipeline.{pipeStart}
 use Rattle.clocked.specs.PipeRuns.{PipeAnswer, pipeAnswer}
 use Rattle.records.specs.Names.{Instruction, Status, aok, hlt, adr, ins}
 use Rattle.records.specs.Given.{Change, image, filled, empty, given, coded, registers, codes, stopped, counts, keeps, F, D, E, M, W, nop, cmov, irmovq}
-use Rattle.records.specs.Given.{rmmovq, mrmovq, operation, jump, call, ret, pushq, popq, fetchedAs, instruction}
+use Rattle.records.specs.Given.{rmmovq, mrmovq, operation, jump, call, ret, pushq, popq, iaddq, fetchedAs, instruction}
 use Rattle.records.specs.Looks.{Row, answers, clocked, predicted, register, codesNow, status, last, retired, cycles, loaduse}
 use Rattle.records.specs.Looks.{mispredict, returned, byte, d, e, m, w, kept, bubble, address, fetchStatus, code}
 use Rattle.records.specs.Looks.{statusW, keptHeld}
@@ -70,6 +70,8 @@ rowsOfClock =
     ∷ controls "R10.1 load-use: mrmovq in E, its register the first source" (D (operation 0 3 0 1) ∷ E (mrmovq 0 1 3 2) 0 0 ∷ []) 30 1 bubble 2
     ∷ controls "R10.1 load-use: mrmovq in E, its register the second source" (D (operation 0 0 3 1) ∷ E (mrmovq 0 1 3 2) 0 0 ∷ []) 30 1 bubble 2
     ∷ controls "R10.1 load-use: popq in E" (D (pushq 3 1) ∷ E (popq 3 2) 0 0 ∷ []) 30 1 bubble 2
+    ∷ controls "R10.1 load-use: iaddq behind a load of rB" (D (iaddq 5 3 1) ∷ E (mrmovq 0 1 3 2) 0 0 ∷ []) 30 1 bubble 2
+    ∷ controls "R10.1 no load-use: iaddq of another register" (D (iaddq 5 2 1) ∷ E (popq 3 2) 0 0 ∷ []) 31 30 1 2
     ∷ controls "R10.1 no load-use: another register" (D (operation 0 1 2 1) ∷ E (mrmovq 0 1 3 2) 0 0 ∷ []) 31 30 1 2
     ∷ controls "R10.1 no load-use: popq's rsp is a result" (D (call 0 1) ∷ E (popq 3 2) 0 0 ∷ []) 31 30 1 2
     ∷ controls "R10.1 no load-use: a result, and no load" (D (operation 0 3 0 1) ∷ E (irmovq 0 3 2) 0 0 ∷ []) 31 30 1 2
@@ -96,10 +98,18 @@ rowsOfClock =
     ((predicted, 31) ∷ (d address, 30) ∷ (e address, 1) ∷ (m address, bubble) ∷ (w address, 3) ∷ (statusW, 3) ∷ (codesNow, 4) ∷ (status, 1) ∷ [])
     ∷ clocked "R10.4 bad fetch status in M: bubble into M, no codes" (D (nop 1) ∷ E (operation 0 0 1 2) 1 2 ∷ M (fetchedAs hlt (nop 3)) 0 0 true ∷ []) nops 1
     ((e address, 1) ∷ (m address, bubble) ∷ (w address, 3) ∷ (statusW, 2) ∷ (codesNow, 4) ∷ [])
+    ∷ clocked "R10.5 bad status in M after its access: an iaddq in E sets no codes" (E (iaddq 1 1 2) 0 2 ∷ M (rmmovq 0 0 1 3) 0 53 true ∷ []) nops 1
+    ((m address, bubble) ∷ (codesNow, 4) ∷ [])
+    ∷ clocked "R10.5 bad status in W: an iaddq in E sets no codes" (E (iaddq 1 1 2) 0 2 ∷ W (popq 3 3) 0 true 0 adr ∷ []) nops 1
+    ((e address, 2) ∷ (codesNow, 4) ∷ [])
+    ∷ clocked "R10.5 good status in M: an iaddq in E sets codes" (E (iaddq 1 1 2) 0 2 ∷ M (rmmovq 0 0 1 3) 0 52 true ∷ []) nops 1
+    ((m address, 2) ∷ (codesNow, 0) ∷ [])
     ∷ clocked "R10.5 good status in M: no bubble, and codes" (E (operation 0 0 1 2) 1 2 ∷ M (rmmovq 0 0 1 3) 0 52 true ∷ []) nops 1
     ((m address, 2) ∷ (w address, 3) ∷ (statusW, 1) ∷ (codesNow, 0) ∷ [])
     ∷ clocked "R10.4 bad fetch status in E: no bubble into M yet" (E (fetchedAs ins (nop 2)) 0 0 ∷ []) nops 1 ((m address, 2) ∷ (m fetchStatus, 4) ∷ [])
     ∷ clocked "R14.5 an OPq with a bad status of its own sets codes" (E (fetchedAs ins (operation 0 0 1 2)) 1 2 ∷ []) nops 1
+    ((codesNow, 0) ∷ (m address, 2) ∷ [])
+    ∷ clocked "R14.5 an iaddq with a bad status of its own sets codes" (E (fetchedAs ins (iaddq 1 1 2)) 0 2 ∷ []) nops 1
     ((codesNow, 0) ∷ (m address, 2) ∷ [])
     ∷ clocked "R10.6 misprediction beside a bad status in M" (D (nop 1) ∷ E (jump 4 40 2) 0 0 ∷ M (fetchedAs ins (nop 3)) 0 0 true ∷ []) nops 1
     ((d address, bubble) ∷ (e address, bubble) ∷ (m address, bubble) ∷ (w address, 3) ∷ [])
@@ -118,6 +128,7 @@ rowsOfClock =
     ∷ clocked "R8.2 the condition goes on from M to W" (M (cmov 2 0 3 7) 9 9 false ∷ registers ((3, 6) ∷ []) ∷ []) nops 2
     ((register 3, 6) ∷ (kept address, 7) ∷ (keptHeld, 0) ∷ [])
     ∷ clocked "R14.5 no other is held back by a false condition" (W (irmovq 5 3 7) 5 false 0 aok ∷ []) nops 1 ((register 3, 5) ∷ [])
+    ∷ clocked "R5.2 iaddq writes rB, whatever its condition is marked" (W (iaddq 5 3 7) 12 false 0 aok ∷ []) nops 1 ((register 3, 12) ∷ [])
     ∷ clocked "R2.1 register 14 as a target" (W (irmovq 5 14 7) 5 true 0 aok ∷ []) nops 1 ((register 14, 5) ∷ [])
     ∷ clocked "R5.2 ret writes rsp" (W (ret 7) 5 true 9 aok ∷ []) nops 1 ((register 4, 5) ∷ [])
     -- "Charge of instruction k ≥ 2, by its predecessor: 1 if that loads a register among k's sources; 2 if it was a conditional jump not taken; 3 if
@@ -125,6 +136,10 @@ rowsOfClock =
     ∷ charges "R11.5 1 if that loads a register among k's sources: mrmovq" (keeps (mrmovq 0 1 3 0) true ∷ []) (operation 0 0 3 7) aok 21 20 20
     ∷ charges "R11.5 1 if that loads a register among k's sources: popq" (keeps (popq 3 0) true ∷ []) (pushq 3 7) aok 21 20 20
     ∷ charges "R11.5 1: popq rsp before ret" (keeps (popq 4 0) true ∷ []) (ret 7) aok 21 20 20
+    ∷ charges "R11.5 1: iaddq behind a load of rB" (keeps (mrmovq 0 1 3 0) true ∷ []) (iaddq 5 3 7) aok 21 20 20
+    ∷ charges "R11.5 1: iaddq rsp behind popq rsp" (keeps (popq 4 0) true ∷ []) (iaddq 8 4 7) aok 21 20 20
+    ∷ charges "R11.5 0: iaddq behind a load of another register" (keeps (mrmovq 0 1 3 0) true ∷ []) (iaddq 5 2 7) aok 20 20 20
+    ∷ charges "R11.5 0: iaddq loads nothing" (keeps (iaddq 5 3 0) true ∷ []) (iaddq 5 3 7) aok 20 20 20
     ∷ charges "R11.5 0: a load of another register" (keeps (mrmovq 0 1 3 0) true ∷ []) (operation 0 1 2 7) aok 20 20 20
     ∷ charges "R11.5 0: popq's rsp is no load" (keeps (popq 3 0) true ∷ []) (ret 7) aok 20 20 20
     ∷ charges "R9.4 0: register 15 matches nothing" (keeps (mrmovq 0 1 15 0) true ∷ []) (cmov 0 15 0 7) aok 20 20 20

@@ -5,13 +5,14 @@ use mathlib.Core.Bool.{true, cond}
 use mathlib.Core.List.{List, [], _∷_}
 use lib.ListN.{replicate}
 use Rattle.machine.specs.Memory.{Memory}
+use Rattle.machine.specs.Table.{unknownByte}
 use Rattle.machine.specs.Plain.{plainOf, plainStart}
 use Rattle.clocked.specs.Premise.{writesByte, hasByte}
 use Rattle.machine.specs.Runs.{PlainAnswer, plainAnswer, plainRefusal as plainRefuses, plainStep}
 use Rattle.clocked.specs.PipeRuns.{pipeRefusal, pipeRunUnlogged, pipeClock}
 use Rattle.records.specs.Names.{Instruction, Machine, Status, aok, hlt, adr, ins}
 use Rattle.records.specs.Given.{Change, image, filled, empty, given, coded, fresh, with, stopped, counts, keeps, D, E, M, W, nop, cmov, operation, jump}
-use Rattle.records.specs.Given.{popq, unknown, fetchedAs, instruction}
+use Rattle.records.specs.Given.{popq, iaddq, unknown, fetchedAs, instruction}
 use Rattle.records.specs.Looks.{Row, answers, numbers, ran, performed, refusal, status, last, retired, cycles, predicted, d, address}
 use Rattle.records.specs.Looks.{addressLog, cycleLog, plainRefusal, plainRegister, plainCodes, plainAddress, plainStatus, plainLast}
 use Rattle.records.specs.Looks.{plainCount, plainLog}
@@ -124,7 +125,7 @@ rowsOfEntries =
     ∷ anywhere "R14.3 5: code without functions in the table" 5 (unknown 0)
     ∷ anywhere "R14.3 5: code without functions in the table, 15" 5 (instruction 15 0 15 15 0 1 0)
     ∷ anywhere "R14.3 5: code above the table" 5 (instruction 16 0 15 15 0 1 0)
-    ∷ anywhere "R14.3 code 11" 0 (popq 0 0)
+    ∷ anywhere "R14.3 code 12" 0 (iaddq 0 0 0)
     ∷ anywhere "R14.3 5: move function over 6" 5 (cmov 7 0 1 0)
     ∷ anywhere "R14.3 move function 6" 0 (cmov 6 0 1 0)
     ∷ anywhere "R14.3 5: jump function over 6" 5 (jump 7 0 0)
@@ -132,6 +133,7 @@ rowsOfEntries =
     ∷ anywhere "R14.3 5: OPq function over 3" 5 (operation 4 0 1 0)
     ∷ anywhere "R14.3 OPq function 3" 0 (operation 3 0 1 0)
     ∷ anywhere "R14.3 the function of no other code is looked at" 0 (instruction 1 9 15 15 0 1 0)
+    ∷ anywhere "R14.3 the function of no other code is looked at: iaddq" 0 (instruction 12 255 15 0 0 10 0)
     ∷ anywhere "R14.3 a bad fetch status is no refusal" 0 (fetchedAs ins (nop 0))
     -- 5: "retired or a kind's count above cycles"
     ∷ counting "R14.3 counts as high as cycles" 0 (counts 5 5 5 5 5)
@@ -141,8 +143,9 @@ rowsOfEntries =
     ∷ counting "R14.3 5: a kind's count above cycles: return" 5 (counts 0 5 0 0 6)
     -- demand 3's bytes: "An instruction's bytes are its table length from its address, cut at N."
     ∷ hasBytes "R3.4 its table length from its address: 10" 20 10 0x30f1_0000000000000000 0 (1 ∷ 1 ∷ 1 ∷ 1 ∷ 1 ∷ 1 ∷ 0 ∷ 0 ∷ 0 ∷ 0 ∷ [])
+    ∷ hasBytes "R3.4 its table length from its address: 10, of an iaddq" 20 1 0xc0 0 (1 ∷ 1 ∷ 1 ∷ 1 ∷ 1 ∷ 1 ∷ 0 ∷ 0 ∷ 0 ∷ 0 ∷ [])
     ∷ hasBytes "R3.4 its table length from its address: 2, at 1" 20 3 0x10_6001 1 (0 ∷ 1 ∷ 1 ∷ 0 ∷ 0 ∷ 0 ∷ 0 ∷ 0 ∷ 0 ∷ 0 ∷ [])
-    ∷ hasBytes "R3.4 its table length: 1 for a code without functions" 20 1 0xc0 0 (1 ∷ 0 ∷ 0 ∷ 0 ∷ 0 ∷ 0 ∷ 0 ∷ 0 ∷ 0 ∷ 0 ∷ [])
+    ∷ hasBytes "R3.4 its table length: 1 for a code without functions" 20 1 unknownByte 0 (1 ∷ 0 ∷ 0 ∷ 0 ∷ 0 ∷ 0 ∷ 0 ∷ 0 ∷ 0 ∷ 0 ∷ [])
     ∷ hasBytes "R3.4 cut at N" 2 2 0x30f1 0 (1 ∷ 1 ∷ 0 ∷ 0 ∷ 0 ∷ 0 ∷ 0 ∷ 0 ∷ 0 ∷ 0 ∷ [])
     ∷ writesBytes "R12.2 a store writes eight bytes, inside" 24 10 0x4000_0900000000000000 (0 ∷ 0 ∷ 0 ∷ 0 ∷ 0 ∷ 1 ∷ 1 ∷ 1 ∷ 1 ∷ 1 ∷ [])
     ∷ writesBytes "R12.2 eight, and no more" 24 10 0x4000_0800000000000000 (0 ∷ 0 ∷ 0 ∷ 0 ∷ 1 ∷ 1 ∷ 1 ∷ 1 ∷ 1 ∷ 0 ∷ [])

@@ -40,35 +40,49 @@ rowsOfFetch =
     ∷ fetches "R3.2 jXX: functions 0-6" ((9, 0x70_0000000000000000) ∷ (9, 0x76_0000000000000000) ∷ (9, 0x77_0000000000000000) ∷ []) (1 ∷ 1 ∷ 4 ∷ [])
     ∷ fetches "R3.2 call: function 0" ((9, 0x80_0000000000000000) ∷ (9, 0x81_0000000000000000) ∷ []) (1 ∷ 4 ∷ [])
     ∷ fetches "R3.2 pushq, popq: function 0" ((2, 0xa00f) ∷ (2, 0xa10f) ∷ (2, 0xb00f) ∷ (2, 0xb10f) ∷ []) (1 ∷ 4 ∷ 1 ∷ 4 ∷ [])
-    ∷ fetches "R3.2 C to F: none" ((1, 0xc0) ∷ (1, 0xd0) ∷ (1, 0xe0) ∷ (1, 0xf0) ∷ (1, 0xff) ∷ []) (4 ∷ 4 ∷ 4 ∷ 4 ∷ 4 ∷ [])
+    ∷ fetches "R3.2 iaddq: function 0" ((10, 0xc0f1_0000000000000000) ∷ (10, 0xc1f1_0000000000000000) ∷ (10, 0xcff1_0000000000000000) ∷ []) (1 ∷ 4 ∷ 4 ∷ [])
+    ∷ fetches "R3.2 D to F: none" ((1, 0xd0) ∷ (1, 0xdf) ∷ (1, 0xe0) ∷ (1, 0xf0) ∷ (1, 0xff) ∷ []) (4 ∷ 4 ∷ 4 ∷ 4 ∷ 4 ∷ [])
     -- the table's lengths: a byte too few; the images above are just long enough
     ∷ fetches "R3.2 a later byte outside memory, ADR: lengths 2" ((1, 0x20) ∷ (1, 0x60) ∷ (1, 0xa0) ∷ (1, 0xb0) ∷ []) (3 ∷ 3 ∷ 3 ∷ 3 ∷ [])
     ∷ fetches "R3.2 a later byte outside memory, ADR: lengths 10"
-    ((9, 0x30f1_00000000000000) ∷ (9, 0x4001_00000000000000) ∷ (9, 0x5001_00000000000000) ∷ []) (3 ∷ 3 ∷ 3 ∷ [])
+    ((9, 0x30f1_00000000000000) ∷ (9, 0x4001_00000000000000) ∷ (9, 0x5001_00000000000000) ∷ (9, 0xc0f1_00000000000000) ∷ (1, 0xc0) ∷ [])
+    (3 ∷ 3 ∷ 3 ∷ 3 ∷ 3 ∷ [])
     ∷ fetches "R3.2 a later byte outside memory, ADR: lengths 9" ((8, 0x70_00000000000000) ∷ (8, 0x80_00000000000000) ∷ []) (3 ∷ 3 ∷ [])
     -- the order of the checks
     ∷ fetchesAt "R4.1 first byte outside memory, ADR" 1 1 0x10 1 ((fetchStatus, 3) ∷ (address, 1) ∷ [])
     ∷ fetchesAt "R4.1 first byte outside memory, ADR: at the highest address" 1 1 0x10 (2 ^ 64 - 1) ((fetchStatus, 3) ∷ (address, 2 ^ 64 - 1) ∷ [])
     ∷ fetches "R4.1 code or function not in the table before a later byte outside"
-    ((1, 0x27) ∷ (1, 0x31) ∷ (1, 0x77) ∷ (1, 0x81) ∷ (1, 0xa1) ∷ []) (4 ∷ 4 ∷ 4 ∷ 4 ∷ 4 ∷ [])
-    ∷ fetches "R4.1 a later byte outside before a named register that is 15 or a filler that isn't F"
-    ((9, 0x40ff_00000000000000) ∷ (9, 0x3000_00000000000000) ∷ []) (3 ∷ 3 ∷ [])
-    -- named registers and fillers, by instruction and half
+    ((1, 0x27) ∷ (1, 0x31) ∷ (1, 0x77) ∷ (1, 0x81) ∷ (1, 0xa1) ∷ (1, 0xc1) ∷ []) (4 ∷ 4 ∷ 4 ∷ 4 ∷ 4 ∷ 4 ∷ [])
+    ∷ fetches "R4.1 a later byte outside before a named register that is 15"
+    ((9, 0x40ff_00000000000000) ∷ (9, 0x30ff_00000000000000) ∷ []) (3 ∷ 3 ∷ [])
+    -- named registers, by instruction and half, and fillers, which are not looked at
     ∷ fetches "R4.1 a named register that is 15: cmovXX" ((2, 0x20f0) ∷ (2, 0x200f) ∷ (2, 0x20ee) ∷ []) (4 ∷ 4 ∷ 1 ∷ [])
     ∷ fetches "R4.1 a named register that is 15: OPq" ((2, 0x60f0) ∷ (2, 0x600f) ∷ (2, 0x60ee) ∷ []) (4 ∷ 4 ∷ 1 ∷ [])
     ∷ fetches "R4.1 a named register that is 15: rmmovq"
     ((10, 0x40f0_0000000000000000) ∷ (10, 0x400f_0000000000000000) ∷ (10, 0x40ee_0000000000000000) ∷ []) (4 ∷ 4 ∷ 1 ∷ [])
     ∷ fetches "R4.1 a named register that is 15: mrmovq"
     ((10, 0x50f0_0000000000000000) ∷ (10, 0x500f_0000000000000000) ∷ (10, 0x50ee_0000000000000000) ∷ []) (4 ∷ 4 ∷ 1 ∷ [])
-    ∷ fetches "R4.1 irmovq F rB: a filler that isn't F, a named register that is 15"
-    ((10, 0x30e0_0000000000000000) ∷ (10, 0x30ff_0000000000000000) ∷ (10, 0x30fe_0000000000000000) ∷ []) (4 ∷ 4 ∷ 1 ∷ [])
-    ∷ fetches "R4.1 pushq rA F: a filler that isn't F, a named register that is 15" ((2, 0xa00e) ∷ (2, 0xa0ff) ∷ (2, 0xa0ef) ∷ []) (4 ∷ 4 ∷ 1 ∷ [])
-    ∷ fetches "R4.1 popq rA F: a filler that isn't F, a named register that is 15" ((2, 0xb00e) ∷ (2, 0xb0ff) ∷ (2, 0xb0ef) ∷ []) (4 ∷ 4 ∷ 1 ∷ [])
+    ∷ fetches "R4.1 irmovq: fillers 0, 8, 14 and F, and a named register that is 15 beside a filler 8 and F"
+    ((10, 0x3000_0000000000000000) ∷ (10, 0x3081_0000000000000000) ∷ (10, 0x30e2_0000000000000000) ∷ (10, 0x30fe_0000000000000000)
+    ∷ (10, 0x308f_0000000000000000) ∷ (10, 0x30ff_0000000000000000) ∷ []) (1 ∷ 1 ∷ 1 ∷ 1 ∷ 4 ∷ 4 ∷ [])
+    ∷ fetches "R4.1 iaddq: fillers 0, 8, 14 and F, and a named register that is 15 beside a filler 8 and F"
+    ((10, 0xc000_0000000000000000) ∷ (10, 0xc081_0000000000000000) ∷ (10, 0xc0e2_0000000000000000) ∷ (10, 0xc0fe_0000000000000000)
+    ∷ (10, 0xc08f_0000000000000000) ∷ (10, 0xc0ff_0000000000000000) ∷ []) (1 ∷ 1 ∷ 1 ∷ 1 ∷ 4 ∷ 4 ∷ [])
+    ∷ fetches "R4.1 pushq: fillers 0, 8, 14 and F, and a named register that is 15 beside a filler 8 and F"
+    ((2, 0xa000) ∷ (2, 0xa018) ∷ (2, 0xa02e) ∷ (2, 0xa0ef) ∷ (2, 0xa0f8) ∷ (2, 0xa0ff) ∷ []) (1 ∷ 1 ∷ 1 ∷ 1 ∷ 4 ∷ 4 ∷ [])
+    ∷ fetches "R4.1 popq: fillers 0, 8, 14 and F, and a named register that is 15 beside a filler 8 and F"
+    ((2, 0xb000) ∷ (2, 0xb018) ∷ (2, 0xb02e) ∷ (2, 0xb0ef) ∷ (2, 0xb0f8) ∷ (2, 0xb0ff) ∷ []) (1 ∷ 1 ∷ 1 ∷ 1 ∷ 4 ∷ 4 ∷ [])
     -- the fields
     ∷ fetchesAt "R3.1 First byte is code and function; then a register byte rA:rB" 3 3 0x10_2623 1
     ((fetchStatus, 1) ∷ (address, 1) ∷ (code, 2) ∷ (function, 6) ∷ (ra, 2) ∷ (rb, 3) ∷ (constant, 0) ∷ (next, 3) ∷ [])
     ∷ fetchesAt "R3.1 a register byte rA:rB and an 8-byte constant C, least first" 10 10 0x5023_0102030405060708 0
     ((code, 5) ∷ (function, 0) ∷ (ra, 2) ∷ (rb, 3) ∷ (constant, 0x0807060504030201) ∷ (next, 10) ∷ [])
+    ∷ fetchesAt "R3.1 iaddq: F rB and an 8-byte constant C" 11 11 0x10_c0f3_0102030405060708 1
+    ((fetchStatus, 1) ∷ (code, 12) ∷ (function, 0) ∷ (ra, 15) ∷ (rb, 3) ∷ (constant, 0x0807060504030201) ∷ (next, 11) ∷ [])
+    ∷ fetchesAt "R4.2 a filler's half is 15: irmovq" 10 10 0x3083_0000000000000000 0 ((fetchStatus, 1) ∷ (ra, 15) ∷ (rb, 3) ∷ [])
+    ∷ fetchesAt "R4.2 a filler's half is 15: iaddq" 10 10 0xc083_0000000000000000 0 ((fetchStatus, 1) ∷ (ra, 15) ∷ (rb, 3) ∷ [])
+    ∷ fetchesAt "R4.2 a filler's half is 15: pushq" 2 2 0xa038 0 ((fetchStatus, 1) ∷ (ra, 3) ∷ (rb, 15) ∷ [])
+    ∷ fetchesAt "R4.2 a filler's half is 15: popq" 2 2 0xb030 0 ((fetchStatus, 1) ∷ (ra, 3) ∷ (rb, 15) ∷ [])
     ∷ fetchesAt "R4.2 jXX has no register byte, so C follows the first" 9 9 0x76_f102030405060708 0
     ((fetchStatus, 1) ∷ (code, 7) ∷ (function, 6) ∷ (ra, 15) ∷ (rb, 15) ∷ (constant, 0x08070605040302f1) ∷ (next, 9) ∷ [])
     ∷ fetchesAt "R4.2 call has no register byte" 9 9 0x80_f102030405060708 0
@@ -90,4 +104,5 @@ rowsOfFetch =
     ∷ clocked "R8.4 Prediction: call goes to C" (F 1 ∷ []) (image 10 10 0x10_80_2a00000000000000) 1 ((predicted, 42) ∷ (d next, 10) ∷ [])
     ∷ clocked "R8.4 others to the next address: ret" (F 1 ∷ []) (image 2 2 0x10_90) 1 ((predicted, 2) ∷ (d next, 2) ∷ [])
     ∷ clocked "R8.4 others to the next address: irmovq" [] (image 10 10 0x30f1_2a00000000000000) 1 ((predicted, 10) ∷ [])
+    ∷ clocked "R8.4 others to the next address: iaddq" [] (image 10 10 0xc0f1_2a00000000000000) 1 ((predicted, 10) ∷ [])
     ∷ []

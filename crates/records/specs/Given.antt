@@ -5,6 +5,7 @@ use mathlib.Core.List.{List, [], _∷_, _++_}
 use lib.Dec.{eqb}
 use lib.ListN.{set, replicate}
 use Rattle.machine.specs.Memory.{Memory, lent, Registers}
+use Rattle.machine.specs.Table.{unknownCode}
 use Rattle.clocked.specs.Prediction.{asIn01}
 use Rattle.clocked.specs.Pipeline.{pipeStart}
 use Rattle.records.specs.Names.{Status, aok, Codes, Instruction, StageD, inD, StageE, inE, StageM, inM, StageW, inW, Kept, lastKept, Kinds, Pipeline}
@@ -74,9 +75,12 @@ pushq x = instruction 10 0 x 15 0 2
 abbrev pub popq : (ra : ℕ) → ℕ → Instruction
 popq x = instruction 11 0 x 15 0 2
 
--- an instruction of code 12, which the table has no functions for
+abbrev pub iaddq : (constant rb : ℕ) → ℕ → Instruction
+iaddq c y = instruction 12 0 15 y c 10
+
+-- an instruction of a code that the table has no functions for
 abbrev pub unknown : ℕ → Instruction
-unknown = instruction 12 0 15 15 0 1
+unknown = instruction unknownCode 0 15 15 0 1
 
 -- the same instruction with a bad status of its fetch
 abbrev pub fetchedAs : Status → Instruction → Instruction

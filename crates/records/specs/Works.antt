@@ -7,7 +7,7 @@ use Rattle.machine.specs.Memory.{Memory}
 use Rattle.clocked.specs.PipeRuns.{pipeRunUnlogged}
 use Rattle.records.specs.Names.{Instruction, aok, hlt, ins}
 use Rattle.records.specs.Given.{Change, image, with, file, registers, codes, D, E, M, W, nop, cmov, irmovq, rmmovq, mrmovq, operation, jump, call}
-use Rattle.records.specs.Given.{ret, pushq, popq, fetchedAs}
+use Rattle.records.specs.Given.{ret, pushq, popq, iaddq, fetchedAs, instruction}
 use Rattle.records.specs.Looks.{Row, clocked, numbers, codesNow, byte, word, valA, valB, carriedA, result, holds}
 use Rattle.records.specs.Looks.{resultW, loaded, statusW}
 
@@ -30,6 +30,13 @@ takes s q cs v = clocked s (D (cmov 0 q 0 0) ∷ registers ((3, 6) ∷ (4, 6) �
 -- an OPq in E with both values, its result and codes
 abbrev operates : String → (function a b result codes : ℕ) → Row
 operates s f a b r c = clocked s (E (operation f 0 1 0) a b ∷ []) halts 1 ((result, r) ∷ (codesNow, c) ∷ [])
+
+-- an iaddq of this function in E, by its constant and its source, the result and codes; what else is in E is not looked at
+abbrev addsBy : String → (function constant b result codes : ℕ) → Row
+addsBy s f k b r c = clocked s (E (instruction 12 f 15 1 k 10 0) 9 b ∷ []) halts 1 ((result, r) ∷ (codesNow, c) ∷ [])
+
+abbrev adds : String → (constant b result codes : ℕ) → Row
+adds s = addsBy s 0
 
 -- which of the jumps 0 to 6 hold on these codes
 abbrev conditions : String → (codes : ℕ) → List ℕ → Row
@@ -58,6 +65,7 @@ rowsOfSources =
     ∷ decodes "R9.1 Sources: rmmovq rA and rB" (rmmovq 2 0 3 0) 102 103
     ∷ decodes "R9.1 Sources: OPq rA and rB" (operation 0 2 3 0) 102 103
     ∷ decodes "R9.1 Sources: mrmovq rB" (mrmovq 0 3 2 0) 0 103
+    ∷ decodes "R9.1 Sources: iaddq rB" (iaddq 9 3 0) 0 103
     ∷ decodes "R9.1 Sources: pushq rA and rsp" (pushq 2 0) 102 104
     ∷ decodes "R9.1 Sources: popq rsp" (popq 2 0) 104 104
     ∷ decodes "R9.1 Sources: call rsp" (call 0 0) 0 104
@@ -77,6 +85,9 @@ rowsOfSources =
     ∷ takes "R9.2 word loaded in W before result in W" 4 (W (popq 4 0) 5 true 4 aok ∷ []) 4
     ∷ takes "R9.2 result in W before register file" 3 (W (irmovq 5 3 0) 5 true 0 aok ∷ []) 5
     ∷ takes "R9.2 register file" 3 (W (irmovq 5 2 0) 5 true 0 aok ∷ []) 6
+    ∷ takes "R9.2 result in E, of an iaddq" 3 (E (iaddq 5 3 0) 0 7 ∷ []) 12
+    ∷ takes "R9.2 result in M, of an iaddq" 3 (M (iaddq 5 3 0) 0 12 true ∷ []) 12
+    ∷ takes "R9.2 result in W, of an iaddq" 3 (W (iaddq 5 3 0) 12 true 0 aok ∷ []) 12
     ∷ takes "R9.2 result in E, of a popq of another register" 4 (E (popq 2 0) 16 16 ∷ []) 24
     -- "A false cmov has no target, in E or later."
     ∷ takes "R9.3 A true cmov has a target, in E" 3 (E (cmov 2 0 3 0) 9 0 ∷ codes 2 ∷ []) 9
@@ -113,6 +124,19 @@ rowsOfResults =
     ∷ operates "R6.1 and: bit by bit" 2 6 3 2 0
     ∷ operates "R6.4 xor: OF 0" 3 (2 ^ 63) (2 ^ 63) 0 4
     ∷ operates "R6.1 xor: bit by bit" 3 6 3 5 0
+    -- iaddq "adds the constant to rB and sets codes when and as addq does", at both ends of the constant
+    ∷ adds "R6.6 iaddq: rB + C" 5 7 12 0
+    ∷ adds "R6.6 iaddq 2^63-1: 0 is inside" (2 ^ 63 - 1) 0 (2 ^ 63 - 1) 0
+    ∷ adds "R6.6 iaddq 2^63-1: 1 is outside" (2 ^ 63 - 1) 1 (2 ^ 63) 3
+    ∷ adds "R6.6 iaddq 2^63-1: -2^63 is inside" (2 ^ 63 - 1) (2 ^ 63) (2 ^ 64 - 1) 2
+    ∷ adds "R6.6 iaddq -2^63: 0 is inside" (2 ^ 63) 0 (2 ^ 63) 2
+    ∷ adds "R6.6 iaddq -2^63: -1 is outside" (2 ^ 63) (2 ^ 64 - 1) (2 ^ 63 - 1) 1
+    ∷ adds "R6.6 iaddq -2^63: -2^63 is outside, and its result 0" (2 ^ 63) (2 ^ 63) 0 5
+    ∷ adds "R6.6 iaddq -2^63: 2^63-1 is inside" (2 ^ 63) (2 ^ 63 - 1) (2 ^ 64 - 1) 2
+    ∷ adds "R6.6 iaddq -1: 1 wraps to 0 and is inside" (2 ^ 64 - 1) 1 0 4
+    ∷ addsBy "R14.5 an iaddq made by hand adds, whatever function it holds: subtract" 1 (2 ^ 63) (2 ^ 63) 0 5
+    ∷ addsBy "R14.5 an iaddq made by hand adds, whatever function it holds: and" 2 (2 ^ 63 - 1) 1 (2 ^ 63) 3
+    ∷ addsBy "R14.5 an iaddq made by hand adds, whatever function it holds: 255" 255 (2 ^ 63) (2 ^ 64 - 1) (2 ^ 63 - 1) 1
     -- "Conditions 0 to 6: always; le (SF≠OF or ZF); l (SF≠OF); e (ZF); ne; ge (SF=OF); g (SF=OF and not ZF)."
     ∷ conditions "R6.5 Conditions 0 to 6 on none" 0 (1 ∷ 0 ∷ 0 ∷ 0 ∷ 1 ∷ 1 ∷ 1 ∷ [])
     ∷ conditions "R6.5 Conditions 0 to 6 on OF" 1 (1 ∷ 1 ∷ 1 ∷ 0 ∷ 1 ∷ 0 ∷ 0 ∷ [])
@@ -122,7 +146,7 @@ rowsOfResults =
     ∷ conditions "R6.5 Conditions 0 to 6 on ZF OF" 5 (1 ∷ 1 ∷ 1 ∷ 1 ∷ 0 ∷ 0 ∷ 0 ∷ [])
     ∷ conditions "R6.5 Conditions 0 to 6 on ZF SF" 6 (1 ∷ 1 ∷ 1 ∷ 1 ∷ 0 ∷ 0 ∷ 0 ∷ [])
     ∷ conditions "R6.5 Conditions 0 to 6 on ZF SF OF" 7 (1 ∷ 1 ∷ 0 ∷ 1 ∷ 0 ∷ 1 ∷ 0 ∷ [])
-    -- results; "Only OPq sets codes."; "Address and data sums wrap at 2^64."
+    -- results; "Only OPq sets codes.", and iaddq; "Address and data sums wrap at 2^64."
     ∷ executes "R5.2 cmov: rA" (cmov 0 0 1 0) 7 5 7
     ∷ executes "R5.2 irmovq: C" (irmovq 9 1 0) 7 5 9
     ∷ executes "R5.2 rmmovq: rB + C" (rmmovq 0 9 1 0) 7 5 14
@@ -147,6 +171,7 @@ rowsOfAccesses =
     ∷ loads "R5.5 a popq outside is ADR" (popq 0 0) 9 17 0 3
     ∷ loads "R5.5 a ret outside is ADR" (ret 0) 9 17 0 3
     ∷ loads "R5.5 no access, no ADR" (operation 0 0 1 0) 9 99 0 1
+    ∷ loads "R5.5 no access, no ADR: iaddq" (iaddq 0 1 0) 9 99 0 1
     ∷ loads "R8.2 a bad status of the fetch stays" (fetchedAs hlt (nop 0)) 0 99 0 2
     ∷ loads "R14.5 an access outside is ADR, whatever the status was" (fetchedAs hlt (mrmovq 0 1 0 0)) 0 9 0 3
     ∷ stores "R2.4 rmmovq stores rA: 8 bytes, least first" (rmmovq 0 0 1 0) 0x1122334455667788 8 0 0x1122334455667788 1

@@ -1,6 +1,6 @@
 -- A law of `Parse` for each way out, in the order of the checks. What is past all of them is the instruction: `whole` is the record of facts where
--- no byte is missing, `sized` where the table has given the length, `named` where the halves of the register byte have been tested.
-use Rattle.fetching.proofs.Parse.{room, outside, no-function, cut-short, misnamed, halts, fetches, second}
+-- no byte is missing, `sized` where the table has given the length, `named` where the named halves of the register byte have been tested.
+use Rattle.fetching.proofs.Parse.{room, outside, no-function, cut-short, names-none, halts, fetches, second}
 use Prim.Native.Nat.{_-_}
 use lib.ListN.{length}
 use mathlib.Core.Path.{_∙_}
@@ -56,14 +56,14 @@ register-byte-requires c κs =
       room (sized .size-of .result) (length (start .args .memory .now) - start .args .address) (whole .if3 .left),
     )
 
-halves-fit-requires : tie.Need-halves-fit-requires
-halves-fit-requires c κs = search needs
+misnamed-requires : tie.Need-misnamed-requires
+misnamed-requires c κs = search needs
 
 stopping-requires-4 : tie.Need-stopping-requires-4
 stopping-requires-4 c κs = search needs
 
 returns-4 : tie.Need-returns-4
-returns-4 c = search (needs, misnamed)
+returns-4 c = search (needs, names-none)
 
 stopping-requires-5 : tie.Need-stopping-requires-5
 stopping-requires-5 c κs = search needs
@@ -91,7 +91,7 @@ returns-6 c =
     let sized = whole .before .before in
     let there = sized .before .before .before in
     fetches _ _ _ (there .if1 .left) (sized .before .functions-of .ensures) _ (whole .before .if2 .left) (sized .size-of .ensures) _ _ _ (whole .if3 .left)
-    (named .before .before .byte-of .ensures) (named .before .register-byte .ensures) (named .halves-fit .ensures) _ _ (c .before .before .before .if4 .left)
+    (named .before .before .byte-of .ensures) (named .before .register-byte .ensures) (named .misnamed .ensures) _ _ (c .before .before .before .if4 .left)
     (c .before .before .if5 .left) (c .before .constant-of .ensures) (c .sum .ensures)
 
 pub instruction-at-spec : {M : Type 1} → statement M
@@ -111,7 +111,7 @@ instruction-at-spec =
     returns-3
     byte-of-requires
     register-byte-requires
-    halves-fit-requires
+    misnamed-requires
     stopping-requires-4
     returns-4
     stopping-requires-5
