@@ -7,7 +7,7 @@ use lib.ListN.{length}
 use Rattle.machine.specs.Memory.{Memory, size}
 use Rattle.machine.specs.Table.{rowOf, is, cmov, operation, jump}
 use Rattle.machine.specs.Runs.{laid, sizeRefused, budgetRefused, logRefused, lowest}
-use Rattle.clocked.specs.Record.{Pipeline, Instruction, StageD, bubbleD, inD, StageE, bubbleE, inE, StageM, bubbleM, inM, StageW, bubbleW, inW}
+use Rattle.clocked.specs.Record.{Settings, Pipeline, Instruction, StageD, bubbleD, inD, StageE, bubbleE, inE, StageM, bubbleM, inM, StageW, bubbleW, inW}
 use Rattle.clocked.specs.Record.{Kept, noneKept, lastKept}
 use Rattle.clocked.specs.Prediction.{coreOf}
 use Rattle.clocked.specs.Pipeline.{Piped, pipedOf, clocks}
@@ -45,9 +45,14 @@ countsRefused k =
     ltb (k .cycles) (k .retired) || (ltb (k .cycles) (k .kinds .loaduse)
     || (ltb (k .cycles) (k .kinds .mispredict) || ltb (k .cycles) (k .kinds .returned)))
 
+-- 5: "A rule number other than these three" (02, #105)
+unfoldable pub settingsRefused : Settings → Bool
+settingsRefused s = ltb 2 (s .rule)
+
 unfoldable pub recordRefused : Pipeline → Bool
 recordRefused k =
-    refusedInD (k .d) || (refusedInE (k .e) || (refusedInM (k .m) || (refusedInW (k .w) || (refusedKept (k .kept) || countsRefused k))))
+    settingsRefused (k .settings)
+    || (refusedInD (k .d) || (refusedInE (k .e) || (refusedInM (k .m) || (refusedInW (k .w) || (refusedKept (k .kept) || countsRefused k)))))
 
 -- THE PIPELINED RUN
 -- "For the pipeline the limit is 262,145"

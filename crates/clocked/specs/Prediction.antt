@@ -1,6 +1,6 @@
 -- In what cores differ, the settings that choose it, and the two rules that depend on it: prediction and the load-use wait.
 use Prim.Native.Nat.{ℕ}
-use mathlib.Core.Bool.{Bool, true, cond, not, _&&_, _||_, Bool·beq}
+use mathlib.Core.Bool.{Bool, true, false, cond, not, _&&_, _||_, Bool·beq}
 use lib.Dec.{ltb, eqb}
 use Rattle.clocked.specs.Record.{Instruction, Settings}
 use Rattle.machine.specs.Table.{is, jump}
@@ -10,9 +10,9 @@ use Rattle.machine.specs.Stages.{sourceA, sourceB, loadedTarget, turned, straig
 pub record Core : Type 0 where
   pub guesses : Instruction → Bool
 
--- the rule of that number; document 01 has one
+-- "taken; conditional jumps never taken; or taken exactly when C is below the next address, without sign" (02, #105): rules 0, 1 and 2
 unfoldable pub rule : ℕ → Instruction → Bool
-rule n i = true
+rule n i = cond (eqb n 1) false (cond (eqb n 2) (ltb (i .constant) (i .next)) true)
 
 -- the core that a record's settings choose
 abbrev pub coreOf : Settings → Core

@@ -6,6 +6,10 @@ pub neither : (a b : Bool) → a || b ≡ false → (a ≡ false) × (b ≡ fals
 neither true b h = (h, cc)
 neither false b h = (refl, h)
 
+pub or-true : (t : Bool) → t || true ≡ true
+or-true true = refl
+or-true false = refl
+
 pub or-false : (t : Bool) → t || false ≡ t
 or-false true = refl
 or-false false = refl

@@ -26,7 +26,7 @@ use Rattle.clocked.specs.Prediction.{coreOf}
 use Rattle.clocked.specs.Pipeline.{wrong}
 use Rattle.clocked.specs.PipeRuns.{instructionRefused, refusedInD, refusedInE, refusedInM, refusedInW, refusedKept}
 use Rattle.machine.specs.Runs.{sizeRefused, budgetRefused, lowest}
-use Rattle.clocked.specs.PipeRuns.{countsRefused, recordRefused, pipeLimit}
+use Rattle.clocked.specs.PipeRuns.{countsRefused, settingsRefused, recordRefused, pipeLimit}
 use Rattle.stage.specs.declared.forwarding.Targets.{Targets}
 use Rattle.stage.specs.Forwarding.{targetsM, targetsW}
 use Rattle.flow.specs.Moving.{aheadOf}
@@ -85,11 +85,15 @@ pub counts-is : (p : Pipeline)
 unfolding countsRefused
 counts-is p = refl
 
-pub record-is : (p : Pipeline) (d e m w k n : Bool) → d ≡ refusedInD (p .d) → e ≡ refusedInE (p .e) → m ≡ refusedInM (p .m) → w ≡ refusedInW (p .w)
+pub settings-is : (s : Settings) → ltb 2 (s .rule) ≡ settingsRefused s
+unfolding settingsRefused
+settings-is s = refl
+
+pub record-is : (p : Pipeline) (s d e m w k n : Bool) → s ≡ settingsRefused (p .settings) → d ≡ refusedInD (p .d) → e ≡ refusedInE (p .e) → m ≡ refusedInM (p .m) → w ≡ refusedInW (p .w)
     → k ≡ refusedKept (p .kept) → n ≡ countsRefused p
-    → (d || (e || (m || (w || (k || n))))) ≡ recordRefused p
+    → (s || (d || (e || (m || (w || (k || n)))))) ≡ recordRefused p
 unfolding recordRefused
-record-is p d e m w k n f g h i j l = cc
+record-is p s d e m w k n o f g h i j l = cc
 
 module _ (short : Bool) (p : Pipeline) (size budget : ℕ) (s b r : Bool) (es : s ≡ sizeRefused size) where
   pub first-refusal : s ≡ true → 1 ≡ refusalBy short p size budget

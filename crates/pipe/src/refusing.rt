@@ -4,6 +4,7 @@ use answers::size_refused;
 use clocked::Kept;
 use clocked::PIPE_LIMIT;
 use clocked::Pipeline;
+use clocked::Settings;
 use clocked::StageD;
 use clocked::StageE;
 use clocked::StageM;
@@ -16,7 +17,7 @@ use machine::NONE;
 use machine::OPERATION;
 ghost use mathlib.Core.Path.{_≡_};
 ghost use Rattle.clocked.specs.PipeRuns.{instructionRefused, refusedInD, refusedInE, refusedInM, refusedInW, refusedKept};
-ghost use Rattle.clocked.specs.PipeRuns.{countsRefused, recordRefused};
+ghost use Rattle.clocked.specs.PipeRuns.{countsRefused, settingsRefused, recordRefused};
 ghost use Rattle.pipe.specs.Parts.{refusalBy};
 
 // A register over 15, a code without functions, a move, jump or OPq function that the table has not.
@@ -95,18 +96,29 @@ fn counts_refused(pipeline: Pipeline) -> bool
         | ((cycles < kinds.loaduse) | ((cycles < kinds.mispredict) | (cycles < kinds.returned)))
 }
 
+// The rules have the numbers 0 to 2 (#105).
+const LAST_RULE: u8 = 2;
+
+fn settings_refused(settings: Settings) -> bool
+    ensures { λ r. ⌜ r ≡ settingsRefused settings ⌝ }
+{
+    LAST_RULE < settings.rule
+}
+
 fn record_refused(pipeline: Pipeline) -> bool
     ensures { λ r. ⌜ r ≡ recordRefused pipeline ⌝ }
 {
+    let settings = pipeline.settings;
     let d = pipeline.d;
     let e = pipeline.e;
     let m = pipeline.m;
     let w = pipeline.w;
     let kept = pipeline.kept;
-    refused_in_d(d)
-        | (refused_in_e(e)
-            | (refused_in_m(m)
-                | (refused_in_w(w) | (refused_kept(kept) | counts_refused(pipeline)))))
+    settings_refused(settings)
+        | (refused_in_d(d)
+            | (refused_in_e(e)
+                | (refused_in_m(m)
+                    | (refused_in_w(w) | (refused_kept(kept) | counts_refused(pipeline))))))
 }
 
 // 0, or the number of the refusal; short says that a lent log is shorter than the budget.

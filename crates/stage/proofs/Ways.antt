@@ -6,6 +6,7 @@ use lib.Dec.{eqb, ltb}
 use lib.ListN.{getD}
 use borrow.Author.Tests.{lt-ltb, le-ltb, eq-eqb, ne-eqb}
 use Rattle.clocked.specs.declared.Settings.{Settings}
+use Rattle.laws.specs.Tests.{or-false, or-true}
 use Rattle.stage.specs.Types.{Codes, Instruction, Decoded, Executed, Accessed}
 use Rattle.stage.specs.Types.{StageD, bubbleD, inD, StageE, bubbleE, inE, StageM, bubbleM, inM, StageW, bubbleW, inW}
 use Rattle.machine.specs.Types.{isBad}
@@ -73,13 +74,18 @@ meets-is t q = refl
 pub meets-one : (l a b : ℕ) (x y : Bool) → x ≡ meets l a → y ≡ meets l b → (x || y) ≡ (meets l a || meets l b)
 meets-one l a b x y p q = cc
 
-pub always-to-c : (s : Settings) (i : Instruction) → true ≡ guess (coreOf s) i
+-- the rules, by their numbers
+pub guessed-never : (s : Settings) (i : Instruction) → s .rule ≡ 1 → eqb (i .function) 0 ≡ guess (coreOf s) i
 unfolding guess rule
-always-to-c s i = go (eqb (i .function) 0)
-  where
-    go : (b : Bool) → true ≡ (b || true)
-    go true = refl
-    go false = refl
+guessed-never s i h = cc (eq-eqb (s .rule) 1 h, or-false (eqb (i .function) 0))
+
+pub guessed-backward : (s : Settings) (i : Instruction) → s .rule ≡ 2 → (eqb (i .function) 0 || ltb (i .constant) (i .next)) ≡ guess (coreOf s) i
+unfolding guess rule
+guessed-backward s i h = rw h
+
+pub guessed-taken : (s : Settings) (i : Instruction) → (s .rule ≡ 1 → ⊥) → (s .rule ≡ 2 → ⊥) → true ≡ guess (coreOf s) i
+unfolding guess rule
+guessed-taken s i h k = cc (ne-eqb (s .rule) 1 h, ne-eqb (s .rule) 2 k, or-true (eqb (i .function) 0))
 
 pub guessed : (g : Core) (i : Instruction) (h b : Bool) → b ≡ guess g i → eqb (i .code) 7 && not (Bool·beq h b) ≡ mispredicted g i h
 unfolding mispredicted is

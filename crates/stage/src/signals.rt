@@ -14,6 +14,11 @@ ghost use mathlib.Core.Bool.{_||_};
 ghost use Rattle.clocked.specs.Prediction.{coreOf, guess as guessOf, meets as meetsOf, mispredicted as mispredictedOf};
 ghost use Rattle.clocked.specs.Pipeline.{wrong as wrongOf, retInD, retInE, retInM, badInW};
 
+// The rules that do not guess every jump taken (#105).
+const NEVER: u8 = 1;
+
+const BACKWARD: u8 = 2;
+
 // Register 15 as a source matches nothing.
 fn meets(target: u8, source: u8) -> bool
     ensures { λ r. ⌜ r ≡ meetsOf target source ⌝ }
@@ -28,11 +33,17 @@ pub fn meets_either(loaded: u8, a: u8, b: u8) -> bool
     meets(loaded, a) | meets(loaded, b)
 }
 
-// Whether a jump is guessed to go to C: document 01 has one rule, by which every jump is.
+// Whether a jump is guessed to go to C, by the number of the rule; the unconditional one always is.
 pub fn guess(settings: Settings, i: Instruction) -> bool
     ensures { λ r. ⌜ r ≡ guessOf (coreOf settings) i ⌝ }
 {
-    true
+    let always = i.function == 0;
+    let rule = settings.rule;
+    match rule {
+        NEVER => always,
+        BACKWARD => always | (i.constant < i.next),
+        _ => true,
+    }
 }
 
 // A jump whose condition came out otherwise than guessed.

@@ -3,6 +3,9 @@ use borrow.Author.Needs.{needs}
 use Rattle.pipe.proofs.refusing.record_refused.Statement.{statement}
 use Rattle.pipe.proofs.refusing.record_refused.Tie as tie
 
+settings-refused-requires : tie.Need-settings-refused-requires
+settings-refused-requires c κs = search needs
+
 refused-in-d-requires : tie.Need-refused-in-d-requires
 refused-in-d-requires c κs = search needs
 
@@ -28,6 +31,7 @@ pub record-refused-spec : {M : Type 1} → statement M
 record-refused-spec =
     tie.close
     (tie.spec
+    settings-refused-requires
     refused-in-d-requires
     refused-in-e-requires
     refused-in-m-requires

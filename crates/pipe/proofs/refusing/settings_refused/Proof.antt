@@ -1,0 +1,9 @@
+use Rattle.pipe.proofs.Ways.{settings-is}
+use Rattle.pipe.proofs.refusing.settings_refused.Statement.{statement}
+use Rattle.pipe.proofs.refusing.settings_refused.Tie as tie
+
+returns : tie.Need-returns
+returns c = settings-is _
+
+pub settings-refused-spec : {M : Type 1} → statement M
+settings-refused-spec = tie.close (tie.spec returns)
