@@ -25,7 +25,8 @@ module _ (short : Bool) (k : Pipeline) (m : Memory) (budget : ℕ) (a y : List �
   unfolding answerBy
   refused h = cc (ne-eqb n 0 h)
 
-  pub not-refused : n ≡ 0 → (p : Pipeline) (m′ a′ y′ : List ℕ) → pipeAnswer 0 p m′ a′ y′ ≡ pipeDone (clocks (coreOf (k .settings)) (pipedOf k m) budget) a y
+  pub not-refused : n ≡ 0 → (p : Pipeline) (m′ : Memory) (a′ y′ : List ℕ)
+      → pipeAnswer 0 p m′ a′ y′ ≡ pipeDone (clocks (coreOf (k .settings)) (pipedOf k m) budget) a y
       → pipeAnswer 0 p m′ a′ y′ ≡ answerBy short k m budget a y
   unfolding answerBy
   not-refused h p m′ a′ y′ d = cc (eq-eqb n 0 h)
@@ -64,7 +65,8 @@ with-logs k m budget a y t e = e ∙ by-logs (length a ∷ length y ∷ []) _ k 
 abbrev bare : PipeAnswer → PipeAnswer
 bare t = pipeAnswer (t .number) (t .pipeline) (t .memory) [] []
 
-pub without-logs : (k : Pipeline) (m : Memory) (budget n : ℕ) (p : Pipeline) (m′ a′ y′ : List ℕ) → pipeAnswer n p m′ a′ y′ ≡ answerBy false k m budget [] []
+pub without-logs : (k : Pipeline) (m : Memory) (budget n : ℕ) (p : Pipeline) (m′ : Memory) (a′ y′ : List ℕ)
+    → pipeAnswer n p m′ a′ y′ ≡ answerBy false k m budget [] []
     → pipeAnswer n p m′ [] [] ≡ pipeRunUnlogged k m budget
 unfolding pipeRunUnlogged logRefused answerBy pipeDone
 without-logs k m budget n p m′ a′ y′ e = ap bare e ∙ (go (eqb (refusalBy false k (size m) budget) 0) ∙ by-logs [] false k m budget [] [] refl)

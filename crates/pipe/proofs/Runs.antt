@@ -99,7 +99,8 @@ small-enough n t h s = record { retired = omega arith; cycles = omega arith; loa
 
 -- FROM CLOCK TO CLOCK
 -- after n clocks of a run from p₀ that began with first retirements and the logs a₀ and y₀
-pub record Here (s : Settings) (p₀ : Piped) (first : ℕ) (a₀ y₀ : List ℕ) (n : ℕ) (f : Flow) (t : Tally) (x : Status) (r : List ℕ) (m : Memory) (a y : List ℕ) : Type 0 where
+pub record Here (s : Settings) (p₀ : Piped) (first : ℕ) (a₀ y₀ : List ℕ) (n : ℕ) (f : Flow) (t : Tally) (x : Status) (r : List ℕ) (m : Memory) (a y : List ℕ) :
+    Type 0 where
   pub entries : List ℕ
   pub times : List ℕ
   pub state : clocks (coreOf s) p₀ n ≡ piped (whole s f t x r) m entries times
@@ -111,8 +112,8 @@ pub record Here (s : Settings) (p₀ : Piped) (first : ℕ) (a₀ y₀ : List �
   pub ahead : f .ahead ≡ aheadOf (coreOf s) (f .m) (f .w)
   pub long : length r ≡ 15
 
-pub here-first : {f : Flow} {t : Tally} {x : Status} {r : List ℕ} {m : Memory} {a y : List ℕ} (k : Pipeline) → f ≡ flowOf k → length r ≡ 15 → t ≡ tallyOf k → countsRefused k ≡ false
-    → k .cycles ≤ pipeLimit
+pub here-first : {f : Flow} {t : Tally} {x : Status} {r : List ℕ} {m : Memory} {a y : List ℕ} (k : Pipeline) → f ≡ flowOf k
+    → length r ≡ 15 → t ≡ tallyOf k → countsRefused k ≡ false → k .cycles ≤ pipeLimit
     → Here (k .settings) (pipedOf (whole (k .settings) f t x r) m) (k .retired) a y 0 f t x r m a y
 unfolding clocks laid flowOf tallyOf
 here-first k i l e h c =
@@ -130,11 +131,13 @@ here-first k i l e h c =
     }
 
 -- one clock more of a machine that has not stopped; b, q and v are what the code found bad, retiring and bad in W
-module _ {s : Settings} {p₀ : Piped} {first : ℕ} {a₀ y₀ : List ℕ} {n : ℕ} {f : Flow} {t t′ : Tally} {x x′ : Status} {r : List ℕ} {m : Memory} {a y a′ y′ : List ℕ} {b q v : Bool}
+module _ {s : Settings} {p₀ : Piped} {first : ℕ} {a₀ y₀ : List ℕ} {n : ℕ} {f : Flow} {t t′ : Tally} {x x′ : Status} {r : List ℕ} {m : Memory}
+    {a y a′ y′ : List ℕ} {b q v : Bool}
     (h : Here s p₀ first a₀ y₀ n f t x r m a y) (eb : b ≡ isBad x) (good : b ≡ false) (eq : q ≡ retires (f .w)) (et : t′ ≡ tallyAfter (coreOf s) t (f .w))
     (ex : x′ ≡ statusAfter (f .w))
     (ea : a′ ≡ noted q (t .retired - first) (t′ .last) a) (ey : y′ ≡ noted q (t .retired - first) (t′ .cycles) y) (ev : v ≡ badInW (f .w)) where
-  here-after : (f′ : Flow) (r′ : List ℕ) (m′ : Memory) → clock (coreOf s) (piped (whole s f t x r) m (h .entries) (h .times)) ≡ after s t (h .entries) (h .times) (f .w) f′ r′ m′
+  here-after : (f′ : Flow) (r′ : List ℕ) (m′ : Memory)
+      → clock (coreOf s) (piped (whole s f t x r) m (h .entries) (h .times)) ≡ after s t (h .entries) (h .times) (f .w) f′ r′ m′
       → f′ .ahead ≡ aheadOf (coreOf s) (f′ .m) (f′ .w) → length r′ ≡ 15 → Here s p₀ first a₀ y₀ (n + 1) f′ t′ x′ r′ m′ a′ y′
   unfolding clocks tallyAfter
   here-after f′ r′ m′ e i l =

@@ -16,13 +16,13 @@ use Rattle.pipe.proofs.running.looped.Statement.{statement}
 use Rattle.pipe.proofs.running.looped.Tie as tie
 
 abbrev Inv-loop : tie.InvT-loop
-Inv-loop memory₀ budget addresses₀ cycles₀ first registers₀ flow₀ tally₀ status₀ done₀ memory addresses cycles registers flow tally status done =
-    Here (pipedOf (whole flow₀ tally₀ status₀ registers₀) (lent memory₀)) first addresses₀ cycles₀ done flow tally status registers (lent memory)
-    addresses cycles
+Inv-loop memory₀ budget addresses₀ cycles₀ settings first registers₀ flow₀ tally₀ status₀ done₀ memory addresses cycles registers flow tally status done =
+    Here settings (pipedOf (whole settings flow₀ tally₀ status₀ registers₀) (lent memory₀)) first addresses₀ cycles₀ done flow tally status registers
+    (lent memory) addresses cycles
     × (done ≤ budget) × (length memory ≡ length memory₀)
 
 abbrev μ-loop : tie.MeasureT-loop
-μ-loop memory₀ budget addresses₀ cycles₀ first registers₀ flow₀ tally₀ status₀ done₀ memory addresses cycles registers flow tally status done =
+μ-loop memory₀ budget addresses₀ cycles₀ settings first registers₀ flow₀ tally₀ status₀ done₀ memory addresses cycles registers flow tally status done =
     budget - done
 
 abbrev At : Type 0
