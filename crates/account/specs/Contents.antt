@@ -10,7 +10,7 @@ use borrow.Author.Tests.{le-ltb, ltb-false, leb-false, ne-eqb}
 use lib.Dec.{ltb, leb, eqb, eqb·suc-zero}
 use lib.ListN.{length, getD, set, take, drop, length-set, List·getD-eq-default}
 use lib.Seq.{getD-set-same, getD-set-other, getD-drop}
-use Rattle.account.specs.Names.{Status, Instruction, Executed, Accessed, Kept}
+use Rattle.account.specs.Names.{Pipeline, Status, Instruction, Executed, Accessed, Kept}
 use Rattle.account.specs.Names.{StageD, bubbleD, inD, StageE, bubbleE, inE, StageM, bubbleM, inM, StageW, bubbleW, inW}
 use Rattle.machine.specs.Words.{placed}
 use Rattle.machine.specs.Memory.{Memory, lent, size, inside, store}
@@ -23,7 +23,7 @@ use Rattle.clocked.specs.Pipeline.{Piped, pipeStart, afterE, afterM, memoryAfte
 use Rattle.clocked.specs.Pipeline.{fetchAddress, nextD, decodedD, nextE, nextM, keptAfter, advanced, stoppedIn, clock, clocks}
 use Rattle.clocked.specs.PipeRuns.{instructionRefused, refusedInD, refusedInE, refusedInM, refusedInW, refusedKept, countsRefused}
 use Rattle.machine.specs.Runs.{sizeRefused, budgetRefused, logRefused, lowest}
-use Rattle.clocked.specs.PipeRuns.{recordRefused, pipeLimit, pipeRefusal}
+use Rattle.clocked.specs.PipeRuns.{settingsRefused, recordRefused, pipeLimit, pipeRefusal}
 use Rattle.account.specs.Statement.{Start, pipedFrom}
 use Rattle.account.specs.Laws.{checked-any}
 use Rattle.laws.specs.Tests.{neither}
@@ -141,6 +141,7 @@ record Fits (p : Piped) : Type 0 where
   inM′ : refusedInM (p .pipeline .m) ≡ false
   inW′ : refusedInW (p .pipeline .w) ≡ false
   kept : refusedKept (p .pipeline .kept) ≡ false
+  set : settingsRefused (p .pipeline .settings) ≡ false
 
 module _ (g : Core) (p : Piped) (h : Fits p) where
   fits-advanced : Fits (advanced g p)
@@ -156,17 +157,33 @@ module _ (g : Core) (p : Piped) (h : Fits p) where
         inM′ = cond-any (λ m. refusedInM m ≡ false) (fails p) _ _ refl (executed-fits p (p .pipeline .e) (h .inE′));
         inW′ = accessed-fits p (p .pipeline .m) (h .inM′);
         kept = kept-fits (p .pipeline .w) (p .pipeline .kept) (h .inW′) (h .kept);
+        set = h .set;
       }
 
   fits-stopped : (w : Accessed) → Fits (stoppedIn g p w)
   unfolding stoppedIn
-  fits-stopped w = record { bytes = h .bytes; inD′ = h .inD′; inE′ = h .inE′; inM′ = h .inM′; inW′ = h .inW′; kept = h .kept }
+  fits-stopped w = record { bytes = h .bytes; inD′ = h .inD′; inE′ = h .inE′; inM′ = h .inM′; inW′ = h .inW′; kept = h .kept; set = h .set }
 
 -- an answer 0: the first two tests failed
 tests-failed : (a b : Bool) (x : ℕ) → cond a 1 (cond b 3 x) ≡ 0 → (a ≡ false) × (b ≡ false)
 tests-failed true b x h = absurd (omega arith)
 tests-failed false true x h = absurd (omega arith)
 tests-failed false false x h = (refl, refl)
+
+-- and so did the last
+last-failed : (a b c d : Bool) → cond a 1 (cond b 3 (cond c 4 (cond d 5 0))) ≡ 0 → d ≡ false
+last-failed true b c d h = absurd (omega arith)
+last-failed false true c d h = absurd (omega arith)
+last-failed false false true d h = absurd (omega arith)
+last-failed false false false true h = absurd (omega arith)
+last-failed false false false false h = refl
+
+-- a record that is not refused has one of the rules
+pub settings-known : (k : Pipeline) (size budget : ℕ) (logs : List ℕ) → pipeRefusal k size budget logs ≡ 0 → settingsRefused (k .settings) ≡ false
+unfolding pipeRefusal lowest recordRefused
+settings-known k size budget logs h =
+    neither (settingsRefused (k .settings)) _
+    (last-failed (sizeRefused size) (budgetRefused pipeLimit (k .cycles) budget) (logRefused logs budget) (recordRefused k) h) .0
 
 -- THE COUNTS
 counts-fit : (p : Piped) → p .pipeline .retired + total (p .pipeline .kinds) ≤ p .pipeline .cycles → countsRefused (p .pipeline) ≡ false
@@ -179,10 +196,10 @@ counts-fit p h =
       le-ltb (p .pipeline .cycles) (p .pipeline .kinds .returned) (omega arith),
     )
 
-module _ (g : Core) (t : Start) (h : Bytes (t .memory .bytes)) where
+module _ (g : Core) (t : Start) (h : Bytes (t .memory .bytes)) (known : settingsRefused (t .settings) ≡ false) where
   fits-clocks : (c : ℕ) → Fits (clocks g (pipedFrom t) c)
   unfolding clocks pipedFrom pipeStart refusedInD refusedInE refusedInM refusedInW refusedKept
-  fits-clocks zero = record { bytes = h; inD′ = refl; inE′ = refl; inM′ = refl; inW′ = refl; kept = refl }
+  fits-clocks zero = record { bytes = h; inD′ = refl; inE′ = refl; inM′ = refl; inW′ = refl; kept = refl; set = known }
   fits-clocks (suc c) =
       let k = fits-clocks c in
       clock-any g (clocks g (pipedFrom t) c) Fits k (fits-advanced g (clocks g (pipedFrom t) c) k) (fits-stopped g (clocks g (pipedFrom t) c) k)

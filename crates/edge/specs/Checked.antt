@@ -6,7 +6,7 @@ use lib.ListN.{length}
 use Rattle.clocked.specs.Charges.{noKinds}
 use Rattle.clocked.specs.Pipeline.{pipeStart}
 use Rattle.machine.specs.Runs.{logRefused}
-use Rattle.clocked.specs.PipeRuns.{recordRefused, countsRefused, refusedInD, refusedInE, refusedInM, refusedInW, refusedKept}
+use Rattle.clocked.specs.PipeRuns.{settingsRefused, recordRefused, countsRefused, refusedInD, refusedInE, refusedInM, refusedInW, refusedKept}
 use Rattle.machine.specs.Runs.{lowest}
 use Rattle.clocked.specs.PipeRuns.{pipeRefusal, pipeDone, pipeBy, pipeRunUnlogged}
 use Rattle.replay_ends.specs.Ends.{edgeRefusal}
@@ -17,7 +17,7 @@ use Rattle.edge.specs.Edge.{edgeRun}
 pub runs-inside : (memory registers result : List ℕ) (start codes budget : ℕ) → edgeRefusal (length memory) (length registers) (length result) codes budget ≡ 0
     → edgeRun memory registers start codes budget .number ≡ 0
 unfolding edgeRun pipeRunUnlogged pipeBy pipeDone pipeRefusal lowest logRefused
-    recordRefused countsRefused refusedInD refusedInE refusedInM refusedInW refusedKept pipeStart noKinds
+    recordRefused settingsRefused countsRefused refusedInD refusedInE refusedInM refusedInW refusedKept pipeStart noKinds
 runs-inside memory registers result start codes budget h =
     let a = allowed (length memory) (length registers) (length result) codes budget _ refl h in
     rw (a .size, a .budgeted)

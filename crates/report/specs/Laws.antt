@@ -9,7 +9,7 @@ use borrow.Author.Tests.{ne-eqb, lt-ltb}
 use Rattle.clocked.specs.Charges.{noKinds}
 use Rattle.clocked.specs.Pipeline.{pipeStart}
 use Rattle.machine.specs.Runs.{sizeRefused, budgetRefused, logRefused}
-use Rattle.clocked.specs.PipeRuns.{recordRefused, countsRefused, refusedInD, refusedInE, refusedInM}
+use Rattle.clocked.specs.PipeRuns.{settingsRefused, recordRefused, countsRefused, refusedInD, refusedInE, refusedInM}
 use Rattle.machine.specs.Runs.{lowest}
 use Rattle.clocked.specs.PipeRuns.{refusedInW, refusedKept, pipeRefusal, pipeDone, pipeBy, pipeRunUnlogged}
 use Rattle.text.specs.Bytes.{bytes}
@@ -20,7 +20,7 @@ use Rattle.report.specs.Report.{report, imageRun, reported, replayed}
 
 -- an image is refused only for its size
 pub refused-by-size : (image : List ℕ) → imageRun image .number ≡ cond (sizeRefused (length image)) 1 0
-unfolding imageRun pipeRunUnlogged pipeBy pipeDone pipeRefusal lowest budgetRefused logRefused recordRefused countsRefused
+unfolding imageRun pipeRunUnlogged pipeBy pipeDone pipeRefusal lowest budgetRefused logRefused recordRefused settingsRefused countsRefused
     refusedInD refusedInE refusedInM refusedInW refusedKept pipeStart noKinds
 refused-by-size image = go (sizeRefused (length image)) refl
   where

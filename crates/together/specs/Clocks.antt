@@ -9,14 +9,14 @@ use lib.ListN.{length}
 use Rattle.clocked.specs.declared.Pipeline.{Pipeline}
 use Rattle.machine.specs.Memory.{Memory, size}
 use Rattle.clocked.specs.Prediction.{coreOf}
-use Rattle.clocked.specs.Pipeline.{pipedOf, clocks}
-use Rattle.clocked.specs.PipeRuns.{PipeAnswer, pipeAnswer, pipeRefusal, pipeDone, pipeBy, pipeRunUnlogged, pipeClock}
+use Rattle.clocked.specs.Pipeline.{pipeStart, pipedOf, clocks}
+use Rattle.clocked.specs.PipeRuns.{settingsRefused, PipeAnswer, pipeAnswer, pipeRefusal, pipeDone, pipeBy, pipeRunUnlogged, pipeClock}
 use Rattle.answers.specs.Logs.{laid-none}
 use Rattle.answers.specs.Joined.{ones, ones-join}
 use Rattle.pipe.specs.Joined.{unlogged}
 use Rattle.account.specs.Statement.{Start, chosen, pipedFrom}
 use Rattle.account.specs.Timing.{up-to}
-use Rattle.account.specs.Contents.{Bytes, shorter, each-clock}
+use Rattle.account.specs.Contents.{Bytes, settings-known, shorter, each-clock}
 use Rattle.account.specs.TwoRuns.{plainAnswered, pipeUnlogged, unlogged-ran, Covered, EndsAgree, unlogged-too}
 
 -- the answer of the last of n clocks, each made from where the one before it ended
@@ -78,6 +78,10 @@ module _ (t : Start) (b : Bytes (t .memory .bytes)) (n : ℕ) (r : pipeUnlogged 
   refusal : pipeRefusal (pipedFrom t .pipeline) (size (t .memory)) n [] ≡ 0
   refusal = unlogged-ran (pipedFrom t .pipeline) (t .memory) n r .1
 
+  known : settingsRefused (t .settings) ≡ false
+  unfolding pipedFrom pipeStart
+  known = settings-known (pipedFrom t .pipeline) (size (t .memory)) n [] refusal
+
   answers : (k : Pipeline) (m : Memory) (i : ℕ) → pipeRefusal k (size m) i [] ≡ 0 → pipeRunUnlogged k m i .number ≡ 0
   unfolding pipeRunUnlogged pipeBy pipeDone
   answers k m i e = rw e
@@ -89,7 +93,7 @@ module _ (t : Start) (b : Bytes (t .memory .bytes)) (n : ℕ) (r : pipeUnlogged 
   unfolding clockByClock clocks pipedFrom pipeDone
   there zero h f = refl
   there (suc i) h f =
-      let s = answers (pipedFrom t .pipeline) (t .memory) (suc i) (shorter (chosen t) t b n refusal i h) in
+      let s = answers (pipedFrom t .pipeline) (t .memory) (suc i) (shorter (chosen t) t b known n refusal i h) in
       ap (λ (o : PipeAnswer). (o .pipeline, o .memory))
       (clocks-are-a-run (pipedFrom t .pipeline) (t .memory) (suc i) f s ∙ unlogged-ran (pipedFrom t .pipeline) (t .memory) (suc i) s .0)
 
@@ -99,7 +103,7 @@ module _ (t : Start) (b : Bytes (t .memory .bytes)) (n : ℕ) (r : pipeUnlogged 
   up (suc i) h =
       let f = up i (omega arith) in
       let p = clocks (chosen t) (pipedFrom t) i in
-      let next = answers (p .pipeline) (p .memory) 1 (each-clock (chosen t) t b n refusal i h) in
+      let next = answers (p .pipeline) (p .memory) 1 (each-clock (chosen t) t b known n refusal i h) in
       up-to {P = λ (j : ℕ). clockByClock (pipedFrom t .pipeline) (t .memory) (suc j) .number ≡ 0} i f
       (subst (λ (x : Pipeline × Memory). pipeRunUnlogged (x .0) (x .1) 1 .number ≡ 0) (sym (there i (omega arith) f)) next)
 
