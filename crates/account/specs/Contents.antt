@@ -171,7 +171,7 @@ tests-failed false true x h = absurd (omega arith)
 tests-failed false false x h = (refl, refl)
 
 -- and so did the last
-last-failed : (a b c d : Bool) → cond a 1 (cond b 3 (cond c 4 (cond d 5 0))) ≡ 0 → d ≡ false
+last-failed : (a b c d : Bool) → _≡_ {A = ℕ} (cond a 1 (cond b 3 (cond c 4 (cond d 5 0)))) 0 → d ≡ false
 last-failed true b c d h = absurd (omega arith)
 last-failed false true c d h = absurd (omega arith)
 last-failed false false true d h = absurd (omega arith)
