@@ -62,13 +62,13 @@ byPipeline c = pipeRun (pipeStart asIn01 (given (c .registers)) fresh 0) (memory
 -- what a look finds in either engine
 abbrev inPlain : Case → PlainAnswer → What → ℕ → ℕ
 inPlain c s register q = getD (s .machine .registers) q 0
-inPlain c s word a = number 8 (s .memory) a
+inPlain c s word a = number 8 (s .memory .bytes) a
 inPlain c s charged k = charge core01 (plainOf (plainStart (given (c .registers)) fresh 0) (memoryOf c)) k
 
 -- a charge is seen in the cycles in which k and its predecessor retired
 abbrev inPipeline : PipeAnswer → What → ℕ → ℕ
 inPipeline p register q = getD (p .pipeline .registers) q 0
-inPipeline p word a = number 8 (p .memory) a
+inPipeline p word a = number 8 (p .memory .bytes) a
 inPipeline p charged k = getD (p .cycles) (k - 1) 0 - getD (p .cycles) (k - 2) 0 - 1
 
 abbrev seen : Case → PlainAnswer → PipeAnswer → List Look → Bool

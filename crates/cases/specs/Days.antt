@@ -6,7 +6,7 @@ use mathlib.Core.Path.{_≡_, refl}
 use lib.Dec.{eqb}
 use lib.Ieee.{toBits, round}
 use lib.ListN.{replicate}
-use Rattle.machine.specs.Memory.{inside}
+use Rattle.machine.specs.Memory.{lent, inside}
 use Rattle.machine.specs.Runs.{lowest}
 use Rattle.machine.specs.Words.{signed}
 use Rattle.peaks.specs.Types.{comparisonNumber}
@@ -87,7 +87,7 @@ daysHold (w ∷ ws) = same (dayWords (dayOf (w .0) (w .1))) (w .2) && daysHold w
 
 unfoldable pub refusalsHold : List (ℕ × ℕ × ℕ × ℕ × ℕ) → Bool
 refusalsHold [] = true
-refusalsHold (r ∷ rs) = eqb (refusalOf (replicate (r .0) 0) (r .1) (r .2) (r .3)) (r .4) && refusalsHold rs
+refusalsHold (r ∷ rs) = eqb (refusalOf (lent (replicate (r .0) 0)) (r .1) (r .2) (r .3)) (r .4) && refusalsHold rs
 
 -- every day and every refusal holds
 pub days-hold : daysHold days && refusalsHold asked ≡ true

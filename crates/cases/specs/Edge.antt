@@ -3,7 +3,6 @@ use Prim.Native.Nat.{ℕ, suc}
 use mathlib.Core.List.{List, [], _∷_}
 use mathlib.Core.Path.{refl}
 use lib.ListN.{getD, drop, replicate}
-use Rattle.machine.specs.Memory.{Memory}
 use Rattle.machine.specs.Table.{unknownByte}
 use Rattle.block.specs.Block.{wordsIn, withWords}
 use Rattle.edge.specs.Edge.{Edge, edge}
@@ -11,7 +10,7 @@ use Rattle.cases.specs.Promises.{host-edge}
 use Rattle.cases.specs.Computing.{computing}
 use Rattle.cases.specs.Wrong.{FallsFoul, refused, differs}
 
-abbrev halting : Memory × List ℕ × List ℕ × ℕ × ℕ × ℕ
+abbrev halting : List ℕ × List ℕ × List ℕ × ℕ × ℕ × ℕ
 halting = (0 ∷ [], replicate 120 0, replicate 40 0, 0, 4, 5)
 
 -- one that refuses all, by any number

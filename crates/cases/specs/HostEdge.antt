@@ -7,7 +7,6 @@ use mathlib.Core.Path.{_≡_, refl}
 use lib.Dec.{eqb}
 use lib.ListN.{length, replicate}
 use Rattle.machine.specs.Words.{number}
-use Rattle.machine.specs.Memory.{Memory}
 use Rattle.replay_ends.specs.Ends.{edgeRefusal}
 use Rattle.edge.specs.Edge.{Edge, edge, replayed}
 use Rattle.records.specs.Given.{image}
@@ -21,7 +20,7 @@ rising v (suc n) = v ∷ 0 ∷ 0 ∷ 0 ∷ 0 ∷ 0 ∷ 0 ∷ 0 ∷ rising (v + 1
 
 -- what is lent: register q holds 100 + q, and the result block nines
 abbrev replays : String → (size bytes written start codes budget : ℕ) → List (Look Edge) → Row
-replays s n k x a c b = answers s (replayed (image n k x) (rising 100 15) (replicate 40 9) a c b)
+replays s n k x a c b = answers s (replayed (image n k x .bytes) (rising 100 15) (replicate 40 9) a c b)
 
 -- the answer, a word of the register block and of the result block by its place, a word of memory by its address
 abbrev answer : Edge → ℕ
@@ -88,7 +87,7 @@ unfolding failing computing rowsOfReplays rowsOfBytes rowsOfRefusals
 edge-rows-hold = (refl, refl, refl)
 
 -- "number, nothing changed", by whatever number it is refused
-pub edge-unchanged : (m : Memory) (registers result : List ℕ) (start codes budget : ℕ)
+pub edge-unchanged : (m registers result : List ℕ) (start codes budget : ℕ)
     → let n = edgeRefusal (length m) (length registers) (length result) codes budget in
     eqb n 0 ≡ false → replayed m registers result start codes budget ≡ edge n m registers result
 unfolding replayed

@@ -2,7 +2,6 @@
 use mathlib.Core.Path.{sym, _∙_}
 use mathlib.Core.List.{List}
 use Prim.Native.Nat.{ℕ}
-use Rattle.machine.specs.Memory.{Memory}
 use Rattle.text.specs.Parts.{Text}
 use Rattle.listing.specs.Reading.{Answered, listed}
 use Rattle.listing_edge.specs.Listings.{ListingEdge, listingRead}
@@ -11,11 +10,11 @@ use Rattle.cases.specs.Single.{OneAnswer}
 
 -- listing::read: the text, and memory as lent; the answer, and memory afterwards
 abbrev pub listing-read : Operation
-listing-read = record { Given = Text × Memory; Answer = Answered; promised = λ x. listed (x .0) (x .1) }
+listing-read = record { Given = Text × List ℕ; Answer = Answered; promised = λ x. listed (x .0) (x .1) }
 
 -- edge::y86_read_listing: the text, memory and the fault's block as lent; the answer, and both afterwards
 abbrev pub edge-listing : Operation
-edge-listing = record { Given = Text × Memory × List ℕ; Answer = ListingEdge; promised = λ x. listingRead (x .0) (x .1) (x .2) }
+edge-listing = record { Given = Text × List ℕ × List ℕ; Answer = ListingEdge; promised = λ x. listingRead (x .0) (x .1) (x .2) }
 
 pub one-listing-read : OneAnswer listing-read
 one-listing-read x r s a b = a ∙ sym b

@@ -3,7 +3,6 @@ use mathlib.Core.Path.{_≡_, refl, sym, _∙_}
 use mathlib.Core.List.{List, [], _∷_, _++_}
 use Prim.Native.Nat.{ℕ, zero, suc, _+_}
 use lib.ListN.{drop, replicate}
-use Rattle.machine.specs.Memory.{Memory}
 use Rattle.text.specs.Bytes.{bytes}
 use Rattle.text.specs.Decimal.{digits, decimal}
 use Rattle.text.specs.Put.{written}
@@ -18,7 +17,7 @@ use Rattle.cases.specs.Wrong.{FallsFoul, differs}
 
 -- report::report_image: the image and the buffer as lent; how many bytes are handed over, the buffer and the image afterwards
 abbrev pub report-image : Operation
-report-image = record { Given = Memory × List ℕ; Answer = ℕ × List ℕ × Memory; promised = λ x. replayed (x .0) (x .1) }
+report-image = record { Given = List ℕ × List ℕ; Answer = ℕ × List ℕ × List ℕ; promised = λ x. replayed (x .0) (x .1) }
 
 -- report::write_report: an answer's number and record, and the buffer as lent; how many bytes are handed over, and the buffer
 abbrev pub write-report : Operation
@@ -31,7 +30,7 @@ pub one-write-report : OneAnswer write-report
 one-write-report x r s a b = a ∙ sym b
 
 -- a report, to be computed
-unfoldable pub writes : Memory → List ℕ
+unfoldable pub writes : List ℕ → List ℕ
 unfolding computing bytes digits decimal line statusText statusLine registerNames registerName registerLine registerLines
     countLines kindLines endLines report imageRun reported
 writes image = reported image
@@ -51,7 +50,7 @@ unfolding writes
 P3-written = refl
 
 -- irmovq $k for each register k below n, downwards, and halt
-abbrev settings : ℕ → Memory
+abbrev settings : ℕ → List ℕ
 settings zero = 0x00 ∷ []
 settings (suc k) = 0x30 ∷ (0xf0 + k) ∷ k ∷ (replicate 7 0 ++ settings k)
 
@@ -68,7 +67,7 @@ unfolding writes
 unsigned-written = refl
 
 -- WRONG REPORTS, each at the image `00`
-abbrev halting : Memory × List ℕ
+abbrev halting : List ℕ × List ℕ
 halting = (0x00 ∷ [], replicate 652 0)
 
 -- one that refuses all hands over 19 bytes, where it ought to be 84

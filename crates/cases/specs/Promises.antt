@@ -71,7 +71,7 @@ pipe-run-unlogged = promising (Pipeline × Memory × ℕ) PipeAnswer (λ x. pipe
 -- edge::y86_replay: memory, registers and result as lent, start address, codes and budget
 abbrev pub host-edge : Operation
 host-edge =
-    promising (Memory × List ℕ × List ℕ × ℕ × ℕ × ℕ) Edge (λ x. replayed (x .0) (x .1) (x .2) (x .3) (x .4) (x .5))
+    promising (List ℕ × List ℕ × List ℕ × ℕ × ℕ × ℕ) Edge (λ x. replayed (x .0) (x .1) (x .2) (x .3) (x .4) (x .5))
 
 -- together::run_both: the start, the copy of memory for the pipeline, both budgets, the plain engine's log and the pipeline's two
 abbrev pub run-both : Operation
@@ -84,7 +84,7 @@ day-judged = promising (Memory × ℕ × ℕ × ℕ) Answer (λ x. judged (x .0)
 
 -- edge::y86_peaks: the same with the result block as lent
 abbrev pub day-exported : Operation
-day-exported = promising (Memory × List ℕ × ℕ × ℕ × ℕ) DayAt (λ x. dayAnswer (x .0) (x .1) (x .2) (x .3) (x .4))
+day-exported = promising (List ℕ × List ℕ × ℕ × ℕ × ℕ) DayAt (λ x. dayAnswer (x .0) (x .1) (x .2) (x .3) (x .4))
 
 -- dayreport::report_input: the bytes read and the buffer; how many bytes are written, the buffer, and what is left of the bytes read
 abbrev pub input-reported : Operation

@@ -68,5 +68,5 @@ pub same-pipe : {n i : ℕ} {k j : Pipeline} {m u : Memory} {a v y w : List ℕ}
     → pipeAnswer n k m a y ≡ pipeAnswer i j u v w → (n ≡ i) × (k ≡ j) × (m ≡ u) × (a ≡ v) × (y ≡ w)
 same-pipe e = (ap (λ r. r .number) e, ap (λ r. r .pipeline) e, ap (λ r. r .memory) e, ap (λ r. r .addresses) e, ap (λ r. r .cycles) e)
 
-pub same-edge : {n i : ℕ} {m u : Memory} {r v b w : List ℕ} → edge n m r b ≡ edge i u v w → (n ≡ i) × (m ≡ u) × (r ≡ v) × (b ≡ w)
+pub same-edge : {n i : ℕ} {m u r v b w : List ℕ} → edge n m r b ≡ edge i u v w → (n ≡ i) × (m ≡ u) × (r ≡ v) × (b ≡ w)
 same-edge e = (ap (λ x. x .answer) e, ap (λ x. x .memory) e, ap (λ x. x .registers) e, ap (λ x. x .result) e)

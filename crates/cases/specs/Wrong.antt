@@ -10,7 +10,7 @@ use lib.Dec.{eqb}
 use lib.ListN.{getD, set, replicate, take}
 use Rattle.machine.specs.Types.{statusNumber, codesNumber, isBad}
 use Rattle.machine.specs.Words.{number}
-use Rattle.machine.specs.Memory.{Memory, Registers}
+use Rattle.machine.specs.Memory.{Memory, lent, Registers}
 use Rattle.machine.specs.Table.{unknownByte}
 use Rattle.machine.specs.Plain.{Plain, plainOf, plainStart, isStopped, step}
 use Rattle.clocked.specs.Prediction.{core01, asIn01}
@@ -93,8 +93,9 @@ PipeFoul f t budget =
     × FallsFoul pipe-run-unlogged (asPipeUnlogged f) (pipeAt t, t .memory, budget)
 
 -- THE INPUTS: an image, from a fresh start at 0 with ZF=1, and rsp as given, other registers 0
-abbrev from : Memory → ℕ → Start
-from m rsp = record { settings = asIn01; registers = set (replicate 15 0) 4 rsp; codes = record { zf = true; sf = false; of = false }; address = 0; memory = m }
+abbrev from : List ℕ → ℕ → Start
+from image rsp =
+    record { settings = asIn01; registers = set (replicate 15 0) 4 rsp; codes = record { zf = true; sf = false; of = false }; address = 0; memory = lent image }
 
 -- P1: halt
 abbrev pub halt : Start
@@ -148,7 +149,7 @@ pipeCodes r = codesNumber (r .pipeline .codes)
 
 -- the word at 8
 abbrev pipeWord : PipeAnswer → ℕ
-pipeWord r = number 8 (r .memory) 8
+pipeWord r = number 8 (r .memory .bytes) 8
 
 -- ONE THAT REFUSES ALL, by whatever number
 abbrev pub plainRefuses : ℕ → PlainReplay

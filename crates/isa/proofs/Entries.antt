@@ -1,16 +1,16 @@
 -- What the numbers of the constant tables decide is what the rows say. Assumes nothing.
+use Prim.Native.Nat.{ℕ, zero, suc}
 use mathlib.Core.Path.{_≡_, refl}
 use mathlib.Core.Bool.{not, _||_, cond}
 use lib.Dec.{eqb}
-use Rattle.machine.specs.declared.Codes.{Codes}
 use Rattle.machine.specs.declared.Instruction.{Instruction}
 use Rattle.machine.specs.declared.Decoded.{Decoded}
 use Rattle.machine.specs.declared.Executed.{Executed}
 use Rattle.machine.specs.Table.{Which, none, rA, rB, rsp, Computes, nothing, bOpA, justA, justC, bPlusC, bLess8, bPlus8}
-use Rattle.machine.specs.Table.{Sets, noCodes, byOp, bySum}
+use Rattle.machine.specs.Table.{noCodes, rowOf, table}
 use Rattle.machine.specs.Table.{Accesses, noAccess, loadsAtE, loadsAtA, storesA, storesNext}
-use Rattle.machine.specs.Stages.{register, operatedCodes, codesBy, computed, loading, storing, addressed, stored}
-use Rattle.lookup.specs.Numbers.{whichNumber, computesNumber, setsNumber, accessesNumber}
+use Rattle.machine.specs.Stages.{register, computed, loading, storing, addressed, stored}
+use Rattle.lookup.specs.Numbers.{whichNumber, computesNumber, accessesNumber}
 use Rattle.isa.specs.Decisions.{registerBy, computedBy}
 
 pub register-by : (w : Which) (i : Instruction) → registerBy (whichNumber w) i ≡ register w i
@@ -30,13 +30,26 @@ computed-by bPlusC x = refl
 computed-by bLess8 x = refl
 computed-by bPlus8 x = refl
 
-pub codes-by : (k : Sets) (x : Decoded) (c : Codes)
-    → cond (eqb (setsNumber k) 1) (operatedCodes (x .instruction .function) (x .a) (x .b))
-    (cond (eqb (setsNumber k) 2) (operatedCodes 0 (x .instruction .constant) (x .b)) c) ≡ codesBy k x c
-unfolding setsNumber codesBy
-codes-by noCodes x c = refl
-codes-by byOp x c = refl
-codes-by bySum x c = refl
+-- the rows that set codes are those of OPq and iaddq: a clause for each row, and one for what is past them
+pub none-set : (code : ℕ) → (code ≡ 6 → ⊥) → (code ≡ 12 → ⊥) → rowOf code .sets ≡ noCodes
+unfolding rowOf table
+none-set zero h n = refl
+none-set (suc zero) h n = refl
+none-set (suc (suc zero)) h n = refl
+none-set (suc (suc (suc zero))) h n = refl
+none-set (suc (suc (suc (suc zero)))) h n = refl
+none-set (suc (suc (suc (suc (suc zero))))) h n = refl
+none-set (suc (suc (suc (suc (suc (suc zero)))))) h n = absurd (h refl)
+none-set (suc (suc (suc (suc (suc (suc (suc zero))))))) h n = refl
+none-set (suc (suc (suc (suc (suc (suc (suc (suc zero)))))))) h n = refl
+none-set (suc (suc (suc (suc (suc (suc (suc (suc (suc zero))))))))) h n = refl
+none-set (suc (suc (suc (suc (suc (suc (suc (suc (suc (suc zero)))))))))) h n = refl
+none-set (suc (suc (suc (suc (suc (suc (suc (suc (suc (suc (suc zero))))))))))) h n = refl
+none-set (suc (suc (suc (suc (suc (suc (suc (suc (suc (suc (suc (suc zero)))))))))))) h n = absurd (n refl)
+none-set (suc (suc (suc (suc (suc (suc (suc (suc (suc (suc (suc (suc (suc zero))))))))))))) h n = refl
+none-set (suc (suc (suc (suc (suc (suc (suc (suc (suc (suc (suc (suc (suc (suc zero)))))))))))))) h n = refl
+none-set (suc (suc (suc (suc (suc (suc (suc (suc (suc (suc (suc (suc (suc (suc (suc zero))))))))))))))) h n = refl
+none-set (suc (suc (suc (suc (suc (suc (suc (suc (suc (suc (suc (suc (suc (suc (suc (suc code)))))))))))))))) h n = refl
 
 pub loads-by : (k : Accesses) → (eqb (accessesNumber k) 1 || eqb (accessesNumber k) 2) ≡ loading k
 unfolding accessesNumber loading

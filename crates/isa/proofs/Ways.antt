@@ -22,13 +22,13 @@ use Rattle.machine.specs.declared.Accessed.{Accessed}
 use Rattle.machine.specs.Types.{isBad}
 use Rattle.machine.specs.Words.{sum, difference, signed, outside}
 use Rattle.machine.specs.Memory.{Memory, inside, load, store}
-use Rattle.machine.specs.Table.{rowOf, is}
+use Rattle.machine.specs.Table.{rowOf, table, is}
 use Rattle.machine.specs.Stages.{sourceA, sourceB, resultTarget, loadedTarget}
-use Rattle.machine.specs.Stages.{operated, overflows, operatedCodes, newCodes, condition, result, outcome, execute}
+use Rattle.machine.specs.Stages.{operated, overflows, operatedCodes, codesBy, newCodes, condition, result, outcome, execute}
 use Rattle.machine.specs.Stages.{loads, stores, accessAddress, storedWord, accessStatus, access, newMemory, turned, straight, nextAddress}
-use Rattle.lookup.specs.Numbers.{whichNumber, computesNumber, setsNumber}
+use Rattle.lookup.specs.Numbers.{whichNumber, computesNumber}
 use Rattle.isa.specs.Decisions.{accessKind, registerBy, computedBy}
-use Rattle.isa.proofs.Entries.{register-by, computed-by, codes-by, loads-by, stores-by, accesses-by, addressed-by, stored-by}
+use Rattle.isa.proofs.Entries.{register-by, computed-by, none-set, loads-by, stores-by, accesses-by, addressed-by, stored-by}
 
 pub missing : {A : Type 0} (l : List A) (k : ℕ) (d : A) → length l ≤ k → d ≡ getD l k d
 missing l k d h = sym (List·getD-eq-default l d h)
@@ -97,18 +97,17 @@ pub set-codes : (f a b v : ℕ) (n o : Bool) → v ≡ operated f a b → n ≡ 
 unfolding operatedCodes
 set-codes f a b v n o e p q = cc
 
-module _ (x : Decoded) (c : Codes) (k : ℕ) (q : k ≡ setsNumber (rowOf (x .instruction .code) .sets)) where
-  pub codes-operated : (d : Codes) → k ≡ 1 → d ≡ operatedCodes (x .instruction .function) (x .a) (x .b) → d ≡ newCodes x c
-  unfolding newCodes
-  codes-operated d h e = cc (codes-by (rowOf (x .instruction .code) .sets) x c, eq-eqb k 1 h)
+pub codes-operated : (x : Decoded) (c k : Codes) → x .instruction .code ≡ 6 → k ≡ operatedCodes (x .instruction .function) (x .a) (x .b) → k ≡ newCodes x c
+unfolding newCodes codesBy rowOf table
+codes-operated x c k h e = rw h e
 
-  pub codes-added : (d : Codes) → k ≡ 2 → d ≡ operatedCodes 0 (x .instruction .constant) (x .b) → d ≡ newCodes x c
-  unfolding newCodes
-  codes-added d h e = cc (codes-by (rowOf (x .instruction .code) .sets) x c, ap (λ (n : ℕ). eqb n 1) h, eq-eqb k 2 h)
+pub codes-added : (x : Decoded) (c k : Codes) → x .instruction .code ≡ 12 → k ≡ operatedCodes 0 (x .instruction .constant) (x .b) → k ≡ newCodes x c
+unfolding newCodes codesBy rowOf table
+codes-added x c k h e = rw h e
 
-  pub codes-kept : (k ≡ 1 → ⊥) → (k ≡ 2 → ⊥) → c ≡ newCodes x c
-  unfolding newCodes
-  codes-kept h n = cc (codes-by (rowOf (x .instruction .code) .sets) x c, ne-eqb k 1 h, ne-eqb k 2 n)
+pub codes-kept : (x : Decoded) (c : Codes) → (x .instruction .code ≡ 6 → ⊥) → (x .instruction .code ≡ 12 → ⊥) → c ≡ newCodes x c
+unfolding newCodes codesBy
+codes-kept x c h n = rw (none-set (x .instruction .code) h n)
 
 pub result-is : (x : Decoded) (k v : ℕ) → k ≡ computesNumber (rowOf (x .instruction .code) .computes) → v ≡ computedBy k x → v ≡ result x
 unfolding result

@@ -4,19 +4,18 @@ use lookup::numbers::B_LESS_8;
 use lookup::numbers::B_OP_A;
 use lookup::numbers::B_PLUS_8;
 use lookup::numbers::B_PLUS_C;
-use lookup::numbers::BY_OP;
-use lookup::numbers::BY_SUM;
 use lookup::numbers::JUST_A;
 use lookup::numbers::JUST_C;
-use lookup::sets_of;
 use machine::Accessed;
 use machine::CALL;
 use machine::CMOV;
 use machine::Codes;
 use machine::Decoded;
 use machine::Executed;
+use machine::IADDQ;
 use machine::Instruction;
 use machine::JUMP;
+use machine::OPERATION;
 use machine::RET;
 ghost use mathlib.Core.Path.{_≡_};
 ghost use Rattle.machine.specs.Stages.{operated as operatedOf, overflows as overflowsOf, operatedCodes, newCodes, condition as conditionOf};
@@ -82,15 +81,15 @@ fn codes_of(function: u8, a: u64, b: u64) -> Codes
     }
 }
 
-// By what the row says sets them: OPq by its function, iaddq as addq does.
+// Only OPq sets codes, by its function, and iaddq, as addq does: what the rows say, by code.
 pub fn new_codes(x: Decoded, codes: Codes) -> Codes
     ensures { λ r. ⌜ r ≡ newCodes x codes ⌝ }
 {
     let i = x.instruction;
-    let kind = sets_of(i.code);
-    match kind {
-        BY_OP => codes_of(i.function, x.a, x.b),
-        BY_SUM => codes_of(ADD, i.constant, x.b),
+    let code = i.code;
+    match code {
+        OPERATION => codes_of(i.function, x.a, x.b),
+        IADDQ => codes_of(ADD, i.constant, x.b),
         _ => codes,
     }
 }

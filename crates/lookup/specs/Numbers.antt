@@ -1,8 +1,7 @@
 -- The numbers by which the code's constant tables name the entries of a row.
 use Prim.Native.Nat.{ℕ}
 use Rattle.machine.specs.Table.{RegisterByte, noByte, bothNamed, onlyB, onlyA, Which, none, rA, rB, rsp}
-use Rattle.machine.specs.Table.{Computes, nothing, bOpA, justA, justC, bPlusC, bLess8, bPlus8, Sets, noCodes, byOp, bySum}
-use Rattle.machine.specs.Table.{Accesses, noAccess, loadsAtE, loadsAtA, storesA, storesNext}
+use Rattle.machine.specs.Table.{Computes, nothing, bOpA, justA, justC, bPlusC, bLess8, bPlus8, Accesses, noAccess, loadsAtE, loadsAtA, storesA, storesNext}
 
 unfoldable pub byteNumber : RegisterByte → ℕ
 byteNumber noByte = 0
@@ -24,11 +23,6 @@ computesNumber justC = 3
 computesNumber bPlusC = 4
 computesNumber bLess8 = 5
 computesNumber bPlus8 = 6
-
-unfoldable pub setsNumber : Sets → ℕ
-setsNumber noCodes = 0
-setsNumber byOp = 1
-setsNumber bySum = 2
 
 unfoldable pub accessesNumber : Accesses → ℕ
 accessesNumber noAccess = 0

@@ -4,8 +4,6 @@ use crate::numbers::B_OP_A;
 use crate::numbers::B_PLUS_8;
 use crate::numbers::B_PLUS_C;
 use crate::numbers::BOTH_NAMED;
-use crate::numbers::BY_OP;
-use crate::numbers::BY_SUM;
 use crate::numbers::IN_RA;
 use crate::numbers::IN_RB;
 use crate::numbers::IN_RSP;
@@ -15,7 +13,6 @@ use crate::numbers::LOADS_AT_A;
 use crate::numbers::LOADS_AT_E;
 use crate::numbers::NO_ACCESS;
 use crate::numbers::NO_BYTE;
-use crate::numbers::NO_CODES;
 use crate::numbers::NO_REGISTER;
 use crate::numbers::NOTHING;
 use crate::numbers::ONLY_A;
@@ -142,26 +139,6 @@ pub const COMPUTES: [u8; ROWS] = [
     NOTHING, // D
     NOTHING, // E
     NOTHING, // F
-];
-
-// What sets the codes.
-pub const SETS: [u8; ROWS] = [
-    NO_CODES, // halt
-    NO_CODES, // nop
-    NO_CODES, // cmovXX
-    NO_CODES, // irmovq
-    NO_CODES, // rmmovq
-    NO_CODES, // mrmovq
-    BY_OP, // OPq
-    NO_CODES, // jXX
-    NO_CODES, // call
-    NO_CODES, // ret
-    NO_CODES, // pushq
-    NO_CODES, // popq
-    BY_SUM, // iaddq
-    NO_CODES, // D
-    NO_CODES, // E
-    NO_CODES, // F
 ];
 
 // What the memory stage does.

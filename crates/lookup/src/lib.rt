@@ -9,12 +9,10 @@ use crate::columns::BYTES;
 use crate::columns::COMPUTES;
 use crate::columns::FUNCTIONS;
 use crate::columns::LOADED;
-use crate::columns::SETS;
 use crate::columns::SIZES;
 use crate::columns::TARGETS;
 use crate::numbers::NO_ACCESS;
 use crate::numbers::NO_BYTE;
-use crate::numbers::NO_CODES;
 use crate::numbers::NO_REGISTER;
 use crate::numbers::NOTHING;
 use crate::numbers::ROWS;
@@ -23,7 +21,7 @@ ghost use mathlib.Core.Bool.{cond};
 ghost use lib.Dec.{ltb};
 ghost use lib.ListN.{getD};
 ghost use Rattle.machine.specs.Table.{rowOf};
-ghost use Rattle.lookup.specs.Numbers.{byteNumber, whichNumber, computesNumber, setsNumber, accessesNumber};
+ghost use Rattle.lookup.specs.Numbers.{byteNumber, whichNumber, computesNumber, accessesNumber};
 
 // A code of 16 or above, which only a record made by hand has, has the entry of a code without a row.
 fn entry(column: &[u8; ROWS], code: u8, otherwise: u8) -> u8
@@ -68,12 +66,6 @@ pub fn computes_of(code: u8) -> u8
     ensures { λ r. ⌜ r ≡ computesNumber (rowOf code .computes) ⌝ }
 {
     entry(&COMPUTES, code, NOTHING)
-}
-
-pub fn sets_of(code: u8) -> u8
-    ensures { λ r. ⌜ r ≡ setsNumber (rowOf code .sets) ⌝ }
-{
-    entry(&SETS, code, NO_CODES)
 }
 
 pub fn accesses_of(code: u8) -> u8

@@ -36,13 +36,6 @@ pub const B_LESS_8: u8 = 5;
 
 pub const B_PLUS_8: u8 = 6;
 
-// What sets the codes: nothing, valB OP valA, valB + C as addq's sum does.
-pub const NO_CODES: u8 = 0;
-
-pub const BY_OP: u8 = 1;
-
-pub const BY_SUM: u8 = 2;
-
 // What the memory stage does: nothing, load at valE, load at valA, store valA, store the next address.
 pub const NO_ACCESS: u8 = 0;
 

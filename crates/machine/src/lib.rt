@@ -15,6 +15,8 @@ pub const CALL: u8 = 8;
 
 pub const RET: u8 = 9;
 
+pub const IADDQ: u8 = 12;
+
 // Registers 0 to 14, of which 4 is rsp; "15 means none".
 pub const REGISTERS: usize = 15;
 

@@ -7,6 +7,7 @@ use machine::FetchAnswer;
 use machine::Machine;
 use machine::REGISTERS;
 ghost use mathlib.Core.List.{[]};
+ghost use Rattle.machine.specs.Memory.{lent};
 ghost use Rattle.machine.specs.Runs.{plainAnswer};
 ghost use Rattle.clocked.specs.PipeRuns.{pipeAnswer};
 ghost use Rattle.listing.specs.Reading.{answered};
@@ -21,7 +22,7 @@ ghost use Rattle.cases.specs.Promises.{pipe-start, pipe-clock, pipe-run, pipe-r
 ghost use Rattle.cases.specs.Promises.{day-judged, day-exported, input-reported};
 
 fn fetch(memory: &[u8], address: u64) -> FetchAnswer
-    ensures { λ r. ⌜ Fits fetching (now (memory .entry), address) r ⌝ }
+    ensures { λ r. ⌜ Fits fetching (lent (now (memory .entry)), address) r ⌝ }
 {
     fetching::fetch(memory, address)
 }
@@ -33,14 +34,14 @@ fn plain_start(registers: [u64; REGISTERS], codes: Codes, address: u64) -> Machi
 }
 
 fn plain_step(machine: Machine, memory: &mut [u8]) -> plain::Answer
-    ensures { λ r. ⌜ Fits plain-step (machine, now (memory .entry)) (plainAnswer (r .number) (r .machine) (now (memory .exit)) []) ⌝ }
+    ensures { λ r. ⌜ Fits plain-step (machine, lent (now (memory .entry))) (plainAnswer (r .number) (r .machine) (lent (now (memory .exit))) []) ⌝ }
 {
     plain::step(machine, memory)
 }
 
 fn plain_run(machine: Machine, memory: &mut [u8], budget: u64, log: &mut [u64]) -> plain::Answer
-    ensures { λ r. ⌜ Fits plain-run (machine, now (memory .entry), budget, now (log .entry))
-        (plainAnswer (r .number) (r .machine) (now (memory .exit)) (now (log .exit))) ⌝ }
+    ensures { λ r. ⌜ Fits plain-run (machine, lent (now (memory .entry)), budget, now (log .entry))
+        (plainAnswer (r .number) (r .machine) (lent (now (memory .exit))) (now (log .exit))) ⌝ }
 {
     plain::run(machine, memory, budget, log)
 }
@@ -57,7 +58,7 @@ fn pipe_start(
 }
 
 fn pipe_clock(pipeline: Pipeline, memory: &mut [u8]) -> pipe::Answer
-    ensures { λ r. ⌜ Fits pipe-clock (pipeline, now (memory .entry)) (pipeAnswer (r .number) (r .pipeline) (now (memory .exit)) [] []) ⌝ }
+    ensures { λ r. ⌜ Fits pipe-clock (pipeline, lent (now (memory .entry))) (pipeAnswer (r .number) (r .pipeline) (lent (now (memory .exit))) [] []) ⌝ }
 {
     pipe::clock(pipeline, memory)
 }
@@ -69,14 +70,15 @@ fn pipe_run(
     addresses: &mut [u64],
     cycles: &mut [u64],
 ) -> pipe::Answer
-    ensures { λ r. ⌜ Fits pipe-run (pipeline, now (memory .entry), budget, now (addresses .entry), now (cycles .entry))
-        (pipeAnswer (r .number) (r .pipeline) (now (memory .exit)) (now (addresses .exit)) (now (cycles .exit))) ⌝ }
+    ensures { λ r. ⌜ Fits pipe-run (pipeline, lent (now (memory .entry)), budget, now (addresses .entry), now (cycles .entry))
+        (pipeAnswer (r .number) (r .pipeline) (lent (now (memory .exit))) (now (addresses .exit)) (now (cycles .exit))) ⌝ }
 {
     pipe::run(pipeline, memory, budget, addresses, cycles)
 }
 
 fn pipe_run_unlogged(pipeline: Pipeline, memory: &mut [u8], budget: u64) -> pipe::Answer
-    ensures { λ r. ⌜ Fits pipe-run-unlogged (pipeline, now (memory .entry), budget) (pipeAnswer (r .number) (r .pipeline) (now (memory .exit)) [] []) ⌝ }
+    ensures { λ r. ⌜ Fits pipe-run-unlogged (pipeline, lent (now (memory .entry)), budget)
+        (pipeAnswer (r .number) (r .pipeline) (lent (now (memory .exit))) [] []) ⌝ }
 {
     pipe::run_unlogged(pipeline, memory, budget)
 }
@@ -108,16 +110,16 @@ fn both(
     cycles: &mut [u64],
 ) -> together::Both
     ensures { λ r. ⌜ Fits run-both (
-      startOf settings registers codes address (now (memory .entry)),
-      now (copy .entry),
+      startOf settings registers codes address (lent (now (memory .entry))),
+      lent (now (copy .entry)),
       budget,
       clocked,
       now (log .entry),
       now (addresses .entry),
       now (cycles .entry),
     )
-        (bothAnswer (plainAnswer (r .plain .number) (r .plain .machine) (now (memory .exit)) (now (log .exit)))
-        (pipeAnswer (r .pipe .number) (r .pipe .pipeline) (now (copy .exit)) (now (addresses .exit)) (now (cycles .exit)))) ⌝ }
+        (bothAnswer (plainAnswer (r .plain .number) (r .plain .machine) (lent (now (memory .exit))) (now (log .exit)))
+        (pipeAnswer (r .pipe .number) (r .pipe .pipeline) (lent (now (copy .exit))) (now (addresses .exit)) (now (cycles .exit)))) ⌝ }
 {
     together::run_both(
         settings,
@@ -160,7 +162,7 @@ fn edge_listing(text: &[u8], memory: &mut [u8], fault: &mut [u8]) -> u64
 }
 
 fn day_judged(memory: &[u8], table: u64, length: u64, filed: u64) -> peaks::Answer
-    ensures { λ r. ⌜ Fits day-judged (now (memory .entry), table, length, filed) r ⌝ }
+    ensures { λ r. ⌜ Fits day-judged (lent (now (memory .entry)), table, length, filed) r ⌝ }
 {
     peaks::judge(memory, table, length, filed)
 }

@@ -3,9 +3,6 @@ use borrow.Author.Needs.{needs}
 use Rattle.isa.proofs.executing.new_codes.Statement.{statement}
 use Rattle.isa.proofs.executing.new_codes.Tie as tie
 
-sets-of-requires : tie.Need-sets-of-requires
-sets-of-requires c κs = search needs
-
 codes-of-requires : tie.Need-codes-of-requires
 codes-of-requires c κs = search needs
 
@@ -22,4 +19,4 @@ returns-3 : tie.Need-returns-3
 returns-3 c = search (needs, codes-kept)
 
 pub new-codes-spec : {M : Type 1} → statement M
-new-codes-spec = tie.close (tie.spec sets-of-requires codes-of-requires codes-of-requires-2 returns returns-2 returns-3)
+new-codes-spec = tie.close (tie.spec codes-of-requires codes-of-requires-2 returns returns-2 returns-3)
