@@ -19,15 +19,15 @@ abbrev nops : Memory
 nops = filled 60 0x10
 
 -- a clock over nops with 30 in F: where it fetches
-abbrev fetchesFrom : String → List Change → (address : ℕ) → Row
+abbrev pub fetchesFrom : String → List Change → (address : ℕ) → Row
 fetchesFrom s cs a = clocked s (F 30 ∷ cs) nops 1 ((d address, a) ∷ (d code, 1) ∷ [])
 
 -- a clock over nops with 30 in F, and what stands in F, D, E and M afterwards, by address; a nop that is fetched at 30 leaves 31 in F
-abbrev controls : String → List Change → (f d e m : ℕ) → Row
+abbrev pub controls : String → List Change → (f d e m : ℕ) → Row
 controls s cs x y z v = clocked s (F 30 ∷ cs) nops 1 ((predicted, x) ∷ (d address, y) ∷ (e address, z) ∷ (m address, v) ∷ [])
 
 -- an instruction that retires behind a kept one, and its charge by kind
-abbrev charges : String → List Change → Instruction → Status → (loaduse mispredict returned : ℕ) → Row
+abbrev pub charges : String → List Change → Instruction → Status → (loaduse mispredict returned : ℕ) → Row
 charges s cs i t l x u =
     clocked s (W i 0 true 0 t ∷ counts 10 40 20 20 20 ∷ cs) nops 1 ((loaduse, l) ∷ (mispredict, x) ∷ (returned, u) ∷ (retired, 11) ∷ (cycles, 41) ∷ [])
 

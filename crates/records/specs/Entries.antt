@@ -11,7 +11,7 @@ use Rattle.clocked.specs.Premise.{writesByte, hasByte}
 use Rattle.machine.specs.Runs.{PlainAnswer, plainAnswer, plainRefusal as plainRefuses, plainStep}
 use Rattle.clocked.specs.PipeRuns.{pipeRefusal, pipeRunUnlogged, pipeClock}
 use Rattle.records.specs.Names.{Instruction, Machine, Status, aok, hlt, adr, ins}
-use Rattle.records.specs.Given.{Change, image, filled, empty, given, coded, fresh, with, stopped, counts, keeps, D, E, M, W, nop, cmov, operation, jump}
+use Rattle.records.specs.Given.{Change, rule, image, filled, empty, given, coded, fresh, with, stopped, counts, keeps, D, E, M, W, nop, cmov, operation, jump}
 use Rattle.records.specs.Given.{popq, iaddq, unknown, fetchedAs, instruction}
 use Rattle.records.specs.Looks.{Row, answers, numbers, ran, performed, refusal, status, last, retired, cycles, predicted, d, address}
 use Rattle.records.specs.Looks.{addressLog, cycleLog, plainRefusal, plainRegister, plainCodes, plainAddress, plainStatus, plainLast}
@@ -118,6 +118,9 @@ rowsOfEntries =
     ∷ performed "R14.1 plain: a log shorter than the budget" (machine 0 aok 0 0) short 2 (nines 1) ((plainRefusal, 4) ∷ [])
     ∷ performed "R14.1 plain: 3: budget 0" (machine 0 aok 0 0) short 0 [] ((plainRefusal, 3) ∷ [])
     -- 5, in D, E, M, W and the kept one
+    ∷ refuses "R14.3 5: a rule number other than these three" 5 (rule 3 ∷ []) short 1 (nines 1) (nines 1)
+    ∷ refuses "R14.3 5: a rule number other than these three, the highest" 5 (rule 255 ∷ []) short 1 (nines 1) (nines 1)
+    ∷ refuses "R14.3 rule 2" 0 (rule 2 ∷ []) short 1 (nines 1) (nines 1)
     ∷ anywhere "R14.3 5: register number over 15, the first" 5 (cmov 0 16 0 0)
     ∷ anywhere "R14.3 5: register number over 15, the second" 5 (cmov 0 0 16 0)
     ∷ anywhere "R14.3 5: register number over 15, the highest" 5 (popq 255 0)

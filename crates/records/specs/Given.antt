@@ -162,6 +162,26 @@ books s a n y t x k =
       kept = x;
     }
 
+-- the rule of that number
+abbrev pub rule : ℕ → Change
+rule n k =
+    record {
+      settings = record { rule = n };
+      predicted = k .predicted;
+      d = k .d;
+      e = k .e;
+      m = k .m;
+      w = k .w;
+      registers = k .registers;
+      codes = k .codes;
+      status = k .status;
+      last = k .last;
+      retired = k .retired;
+      cycles = k .cycles;
+      kinds = k .kinds;
+      kept = k .kept;
+    }
+
 -- F holds this address; D, E, M and W this instruction, with what it carries there
 abbrev pub F : ℕ → Change
 F a k = stages a (k .d) (k .e) (k .m) (k .w) k

@@ -6,6 +6,7 @@ pub mod Looks
 pub mod Fetches
 pub mod Works
 pub mod Clocks
+pub mod Guesses
 pub mod Entries
 pub mod Rows
 pub mod Always
