@@ -9,7 +9,7 @@ use lib.ListN.{length}
 use Rattle.clocked.specs.declared.Pipeline.{Pipeline}
 use Rattle.machine.specs.Memory.{Memory, size}
 use Rattle.clocked.specs.Prediction.{coreOf}
-use Rattle.clocked.specs.Pipeline.{pipedOf, clocks}
+use Rattle.clocked.specs.Pipeline.{pipedOf, pipeStart, clocks}
 use Rattle.clocked.specs.PipeRuns.{PipeAnswer, pipeAnswer, pipeRefusal, pipeDone, pipeBy, pipeRunUnlogged, pipeClock}
 use Rattle.answers.specs.Logs.{laid-none}
 use Rattle.answers.specs.Joined.{ones, ones-join}
@@ -86,7 +86,7 @@ module _ (t : Start) (b : Bytes (t .memory .bytes)) (n : ℕ) (r : pipeUnlogged 
   there : (i : ℕ) → i ≤ n → NoneRefused (pipedFrom t .pipeline) (t .memory) i
       → let o = clockByClock (pipedFrom t .pipeline) (t .memory) i in
       let p = clocks (chosen t) (pipedFrom t) i in _≡_ {A = Pipeline × Memory} (o .pipeline, o .memory) (p .pipeline, p .memory)
-  unfolding clockByClock clocks pipedFrom pipeDone
+  unfolding clockByClock clocks pipedFrom pipeStart pipeDone
   there zero h f = refl
   there (suc i) h f =
       let s = answers (pipedFrom t .pipeline) (t .memory) (suc i) (shorter (chosen t) t b n refusal i h) in
