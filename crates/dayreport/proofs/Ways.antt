@@ -8,6 +8,7 @@ use lib.Dec.{T}
 use lib.ListN.{length, take, drop, replicate, length-drop, drop-of-length-le}
 use lib.Seq.{take-length}
 use borrow.Rule.Slice.PartMut.{midOf, putMid, post-is}
+use Rattle.clocked.specs.declared.Settings.{Settings}
 use Rattle.clocked.specs.declared.Pipeline.{Pipeline}
 use Rattle.machine.specs.Memory.{Memory, lent}
 use Rattle.clocked.specs.Prediction.{asIn01}
@@ -92,10 +93,13 @@ judged-numbered (refused k) m table n filed h = tt
 judged-numbered (judgedAs d) m table n filed h = judged-number m table n filed d (sym h)
 
 -- THE REPLAY
-pub replayed : (image image′ : List ℕ) (n : ℕ) (fresh p : Pipeline) → fresh ≡ pipeStart asIn01 (replicate 15 0) (record { zf = true; sf = false; of = false }) 0
+pub replayed : (image image′ : List ℕ) (n : ℕ) (s : Settings) (fresh p : Pipeline) → s ≡ asIn01
+    → fresh ≡ pipeStart s (replicate 15 0) (record { zf = true; sf = false; of = false }) 0
     → pipeAnswer n p (lent image′) [] [] ≡ pipeRunUnlogged fresh (lent image) 4000 → lent image′ ≡ imageRun image .memory
 unfolding imageRun
-replayed image image′ n fresh p e f = ap (λ (o : PipeAnswer). o .memory) (f ∙ ap (λ (k : Pipeline). pipeRunUnlogged k (lent image) 4000) e)
+replayed image image′ n s fresh p i e f =
+    let start = λ (x : Settings). pipeStart x (replicate 15 0) (record { zf = true; sf = false; of = false }) 0 in
+    ap (λ (o : PipeAnswer). o .memory) (f ∙ ap (λ (k : Pipeline). pipeRunUnlogged k (lent image) 4000) (e ∙ ap start i))
 
 -- THE REQUEST
 module _ (q : Request) (image out : List ℕ) (i : Bool) (h : i ≡ imageRefused (length image)) {b : List ℕ} {r : ℕ} where

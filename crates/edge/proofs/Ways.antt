@@ -5,6 +5,7 @@ use Prim.Native.Nat.{ℕ}
 use borrow.Author.Tests.{ne-eqb}
 use lib.ListN.{length}
 use Rattle.machine.specs.declared.Codes.{Codes}
+use Rattle.clocked.specs.declared.Settings.{Settings}
 use Rattle.clocked.specs.declared.Pipeline.{Pipeline}
 use Rattle.machine.specs.Memory.{lent}
 use Rattle.clocked.specs.Prediction.{asIn01}
@@ -20,13 +21,13 @@ module _ (memory registers result : List ℕ) (start codes budget n : ℕ)
   unfolding replayed
   refuses z = cc (ne-eqb n 0 z)
 
-  pub replays : (words : List ℕ) (c : Codes) (fresh end : Pipeline) (number : ℕ) (memory′ registers′ result′ : List ℕ) → n ≡ 0 → words ≡ wordsIn 15 registers 0
-      → c ≡ codesFrom codes
-      → fresh ≡ pipeStart asIn01 words c start → pipeAnswer number end (lent memory′) [] [] ≡ pipeRunUnlogged fresh (lent memory) budget
+  pub replays : (words : List ℕ) (c : Codes) (s : Settings) (fresh end : Pipeline) (number : ℕ) (memory′ registers′ result′ : List ℕ) → n ≡ 0
+      → words ≡ wordsIn 15 registers 0 → c ≡ codesFrom codes → s ≡ asIn01
+      → fresh ≡ pipeStart s words c start → pipeAnswer number end (lent memory′) [] [] ≡ pipeRunUnlogged fresh (lent memory) budget
       → registers′ ≡ withWords (end .registers) registers 0
       → result′ ≡ withWords (resultWords end) result 0 → edge 0 memory′ registers′ result′ ≡ replayed memory registers result start codes budget
   unfolding replayed edgeDone edgeRun
-  replays words c fresh end number memory′ registers′ result′ z e f g r p q =
+  replays words c s fresh end number memory′ registers′ result′ z e f i g r p q =
       let run : pipeAnswer number end (lent memory′) [] []
       ≡ pipeRunUnlogged (pipeStart asIn01 (wordsIn 15 registers 0) (codesFrom codes) start) (lent memory) budget = cc in
       rw (sym h ∙ z, ← run) (cc)

@@ -6,6 +6,7 @@ use Prim.Native.Nat.{ℕ, _≤_}
 use native.Mathlib.Omega.{arith}
 use lib.ListN.{length, drop, replicate}
 use borrow.Author.Tests.{eq-eqb, ne-eqb}
+use Rattle.clocked.specs.declared.Settings.{Settings}
 use Rattle.clocked.specs.declared.Pipeline.{Pipeline}
 use Rattle.machine.specs.Memory.{lent}
 use Rattle.clocked.specs.Prediction.{asIn01}
@@ -38,15 +39,15 @@ module _ {a b c : List ℕ} {i r : ℕ} (n : ℕ) (p : Pipeline) (room : length 
       let q : Put (report n p) 0 a r c = rw (ne-eqb n 0 h) (put-both first y) in
       put-front q (omega (arith, q .place))
 
-pub replays : (image image′ out out′ : List ℕ) (n r : ℕ) (fresh p : Pipeline)
-    → fresh ≡ pipeStart asIn01 (replicate 15 0) (record { zf = true; sf = false; of = false }) 0
+pub replays : (image image′ out out′ : List ℕ) (n r : ℕ) (s : Settings) (fresh p : Pipeline)
+    → s ≡ asIn01 → fresh ≡ pipeStart s (replicate 15 0) (record { zf = true; sf = false; of = false }) 0
     → pipeAnswer n p (lent image′) [] [] ≡ pipeRunUnlogged fresh (lent image) 4000 → _≡_ {A = ℕ × List ℕ} (r, out′) (written (report n p) out)
     → _≡_ {A = ℕ × List ℕ × List ℕ} (r, out′, image′) (replayed image out)
 unfolding imageRun reported replayed
-replays image image′ out out′ n r fresh p e f g =
+replays image image′ out out′ n r s fresh p i e f g =
     subst
     (λ (o : PipeAnswer).
     let t = report (o .number) (o .pipeline) in
     _≡_ {A = ℕ × List ℕ × List ℕ} (r, out′, image′) (length t, t ++ drop (length t) out, o .memory .bytes))
-    (f ∙ ap (λ (k : Pipeline). pipeRunUnlogged k (lent image) 4000) e)
+    (f ∙ ap (λ (k : Pipeline). pipeRunUnlogged k (lent image) 4000) (e ∙ ap (λ (x : Settings). pipeStart x (replicate 15 0) (record { zf = true; sf = false; of = false }) 0) i))
     (ap (λ (x : ℕ × List ℕ). (x .0, x .1, image′)) g)

@@ -11,7 +11,7 @@ use Rattle.machine.specs.Memory.{Memory, lent as lentMemory}
 use Rattle.machine.specs.Plain.{Plain, isStopped, steps}
 use Rattle.clocked.specs.Charges.{due}
 use Rattle.clocked.specs.Prediction.{core01, asIn01}
-use Rattle.clocked.specs.Pipeline.{Piped, clocks}
+use Rattle.clocked.specs.Pipeline.{Piped, pipeStart, clocks}
 use Rattle.clocked.specs.Premise.{Untouched}
 use Rattle.clocked.specs.PipeRuns.{PipeAnswer, pipeDone}
 use Rattle.account.specs.Statement.{Start, plainFrom, pipedFrom, DueBy, Agrees}
@@ -50,7 +50,7 @@ module _ (memory registers result : List ℕ) (start codes budget : ℕ) where
   module _ (h : edgeRefusal (length memory) (length registers) (length result) codes budget ≡ 0) where
     -- what the edge lets in is run
     ran : answered ≡ edgeDone (pipeDone piped [] []) registers result
-    unfolding replayed edgeRun pipedFrom
+    unfolding replayed edgeRun pipedFrom pipeStart
     ran =
         let inside = runs-inside memory registers result start codes budget h in
         rw h (ap (λ (o : PipeAnswer). edgeDone o registers result) (unlogged-ran _ (lentMemory memory) budget inside .0))

@@ -90,7 +90,7 @@ module _ (t : Start) (b : Bytes (t .memory .bytes)) (n : ℕ) (r : pipeUnlogged 
   there : (i : ℕ) → i ≤ n → NoneRefused (pipedFrom t .pipeline) (t .memory) i
       → let o = clockByClock (pipedFrom t .pipeline) (t .memory) i in
       let p = clocks (chosen t) (pipedFrom t) i in _≡_ {A = Pipeline × Memory} (o .pipeline, o .memory) (p .pipeline, p .memory)
-  unfolding clockByClock clocks pipedFrom pipeDone
+  unfolding clockByClock clocks pipedFrom pipeStart pipeDone
   there zero h f = refl
   there (suc i) h f =
       let s = answers (pipedFrom t .pipeline) (t .memory) (suc i) (shorter (chosen t) t b known n refusal i h) in

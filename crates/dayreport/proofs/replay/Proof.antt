@@ -3,6 +3,9 @@ use borrow.Author.Needs.{needs}
 use Rattle.dayreport.proofs.replay.Statement.{statement}
 use Rattle.dayreport.proofs.replay.Tie as tie
 
+as-in-01-requires : tie.Need-as-in-01-requires
+as-in-01-requires c κs = search needs
+
 start-requires : tie.Need-start-requires
 start-requires c κs = search needs
 
@@ -13,7 +16,11 @@ same-length : tie.Need-same-length
 same-length c = search needs
 
 returns : tie.Need-returns
-returns c = replayed _ _ _ _ _ (c .before .before .before .before .start .ensures) (c .before .before .run-unlogged .ensures)
+returns c =
+    let run : tie.After-run-unlogged = search in
+    let start : tie.After-start = search in
+    let settings : tie.After-as-in-01 = search in
+    replayed _ _ _ _ _ _ (settings .as-in-01 .ensures) (start .start .ensures) (run .run-unlogged .ensures)
 
 pub replay-spec : {M : Type 1} → statement M
-replay-spec = tie.close (tie.spec start-requires run-unlogged-requires same-length returns)
+replay-spec = tie.close (tie.spec as-in-01-requires start-requires run-unlogged-requires same-length returns)

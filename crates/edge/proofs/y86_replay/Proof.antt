@@ -1,5 +1,5 @@
--- A refusal by `refuses`; else what was let in is run from a fresh start and written back, by `replays`. The `let`s name the record of facts behind
--- each call: `tested` where nothing was refused, `read`, `codes` and `fresh` for the start, `run`, `written` and `answered` for the end.
+-- A refusal by `refuses`; else what was let in is run from a fresh start and written back, by `replays`. A `let` names the record of facts behind a call
+-- by its type, for which `search` finds the place.
 use Rattle.replay_ends.specs.Allowed.{allowed}
 use Rattle.edge.proofs.Ways.{refuses, replays}
 use borrow.Author.Needs.{needs}
@@ -12,8 +12,14 @@ refusal-requires c κs = search needs
 returns : tie.Need-returns
 returns c = refuses _ _ _ _ _ _ _ (c .before .refusal .ensures) (c .if1 .taken)
 
+as-in-01-requires : tie.Need-as-in-01-requires
+as-in-01-requires c κs = search needs
+
 read-registers-requires : tie.Need-read-registers-requires
-read-registers-requires c κs = allowed _ _ _ _ _ _ (c .before .before .refusal .ensures) (c .before .if1 .left) .whole
+read-registers-requires c κs =
+    let tested : tie.After-refusal = search in
+    let allows : tie.Else1 = search in
+    allowed _ _ _ _ _ _ (tested .refusal .ensures) (allows .if1 .left) .whole
 
 codes-from-requires : tie.Need-codes-from-requires
 codes-from-requires c κs = search needs
@@ -26,18 +32,16 @@ run-unlogged-requires c κs = search needs
 
 write-registers-requires : tie.Need-write-registers-requires
 write-registers-requires c κs =
-    let run = c .before .before .before .before in
-    let read = run .before .before .before .before in
-    let tested = read .before .before in
-    allowed _ _ _ _ _ _ (tested .before .refusal .ensures) (tested .if1 .left) .whole
+    let allows : tie.Else1 = search in
+    let tested : tie.After-refusal = search in
+    allowed _ _ _ _ _ _ (tested .refusal .ensures) (allows .if1 .left) .whole
 
 write-result-requires : tie.Need-write-result-requires
 write-result-requires c κs =
-    let written = c .before .before .before .before in
-    let run = written .before .before .before .before in
-    let read = run .before .before .before .before in
-    let tested = read .before .before in
-    allowed _ _ _ _ _ _ (tested .before .refusal .ensures) (tested .if1 .left) .room
+    let written : tie.After-write-registers = search in
+    let allows : tie.Else1 = search in
+    let tested : tie.After-refusal = search in
+    allowed _ _ _ _ _ _ (tested .refusal .ensures) (allows .if1 .left) .room
 
 same-length : tie.Need-same-length
 same-length c = search needs
@@ -50,15 +54,17 @@ same-length-3 c = search needs
 
 returns-2 : tie.Need-returns-2
 returns-2 c =
-    let answered = c .before .before in
-    let written = answered .before .before .before .before in
-    let run = written .before .before .before .before .before in
-    let fresh = run .before .before in
-    let codes = fresh .before in
-    let read = codes .before in
-    let tested = read .before .before in
-    replays _ _ _ _ _ _ _ (tested .before .refusal .ensures) _ _ _ _ _ _ _ _ (tested .if1 .left) (read .read-registers .ensures)
-    (codes .codes-from .ensures) (fresh .start .ensures) (run .run-unlogged .ensures) (written .write-registers .ensures)
+    let answered : tie.After-write-result = search in
+    let written : tie.After-write-registers = search in
+    let run : tie.After-run-unlogged = search in
+    let fresh : tie.After-start = search in
+    let codes : tie.After-codes-from = search in
+    let read : tie.After-read-registers = search in
+    let settings : tie.After-as-in-01 = search in
+    let allows : tie.Else1 = search in
+    let tested : tie.After-refusal = search in
+    replays _ _ _ _ _ _ _ (tested .refusal .ensures) _ _ _ _ _ _ _ _ _ (allows .if1 .left) (read .read-registers .ensures)
+    (codes .codes-from .ensures) (settings .as-in-01 .ensures) (fresh .start .ensures) (run .run-unlogged .ensures) (written .write-registers .ensures)
     (answered .write-result .ensures)
 
 pub y86-replay-spec : {M : Type 1} → statement M
@@ -67,6 +73,7 @@ y86-replay-spec =
     (tie.spec
     refusal-requires
     returns
+    as-in-01-requires
     read-registers-requires
     codes-from-requires
     start-requires

@@ -32,16 +32,17 @@ same-length-4 c = search needs
 same-length-5 : tie.Need-same-length-5
 same-length-5 c = search needs
 
+long-of : (start : tie.Start) → length (start .args .registers) ≡ 15
+long-of start = search needs
+
 returns : tie.Need-returns
 returns c =
-    -- back from the end: the second run, the second start, the first run, the first start, the entry
-    let ran2 = c .before .before .before .before .before .before in
-    let started2 = ran2 .before .before .before .before in
-    let ran1 = started2 .before .before .before .before .before in
-    let started1 = ran1 .before .before .before in
-    let entry = started1 .before .before .before .before .before .before in
-    let long : length (entry .args .registers) ≡ 15 = search (needs, entry .good .0) in
-    both-ran _ _ _ _ _ _ _ long _ (started1 .start .ensures) _ (ran1 .run .ensures) _ (started2 .start2 .ensures) _ (ran2 .run2 .ensures)
+    let ran2 : tie.After-run2 = search in
+    let started2 : tie.After-start2 = search in
+    let ran1 : tie.After-run = search in
+    let started1 : tie.After-start = search in
+    let entry : tie.Start = search in
+    both-ran _ _ _ _ _ _ _ (long-of entry) _ (started1 .start .ensures) _ (ran1 .run .ensures) _ (started2 .start2 .ensures) _ (ran2 .run2 .ensures)
 
 pub run-both-spec : {M : Type 1} → statement M
 run-both-spec =
