@@ -96,9 +96,9 @@ module _ (g : Core) (f : Flow) (r : Registers) (bytes : Memory) {x : StageM} {y 
   fetched : i ≡ fetchedIn g (f .m) (f .w) (f .predicted) bytes
   fetched = fetched-is g (f .ahead .wrong) (f .m) (f .w) (f .predicted) bytes i (wrong-carried g (f .ahead) (f .m) (f .w) h) ei
 
-  wrongly : s .mispredicts ≡ wrong g x
+  wrongly : (s .mispredicts && not (s .fails)) ≡ wrong g (cond (s .fails) bubbleM x)
   unfolding signalsBy signalsWith
-  wrongly = cc
+  wrongly = wrong-of g (s .fails) (s .mispredicts) x (cc)
 
   pub flow-is : {p : ℕ} {d : StageD} {e : StageE} {m : StageM} {k : Codes} {u : Targets}
       → p ≡ cond (s .waits || s .returns) (f .predicted) (predictedNext g i)
@@ -115,4 +115,5 @@ module _ (g : Core) (f : Flow) (r : Registers) (bytes : Memory) {x : StageM} {y 
         ahead = record { m = u; w = f .ahead .m; wrong = s .mispredicts && not (s .fails) };
       } ≡ flowAfter g f r bytes
   unfolding flowAfter shiftedOf aheadOf
-  flow-is ep ed ee em ek eu = cc (m-carried g (f .ahead) (f .m) (f .w) h y bytes ey, fetched, signals, targets-of (s .fails) x, wrong-of g (s .fails) (s .mispredicts) x wrongly)
+  flow-is ep ed ee em ek eu =
+      cc (m-carried g (f .ahead) (f .m) (f .w) h y bytes ey, fetched, signals, targets-of (s .fails) x, wrongly)

@@ -26,8 +26,6 @@ use stage::signals::ret_on_the_way;
 use stage::signals::wrong;
 use stage::working::after_e;
 use stage::working::after_m;
-use stage::working::kind_m;
-use stage::working::memory_after;
 use stage::working::registers_after;
 ghost use mathlib.Core.Path.{_≡_};
 ghost use lib.ListN.{length};
@@ -113,7 +111,7 @@ fn write_and_decode(
     decode_d(d, sources, targets, executed, in_m, accessed, registers)
 }
 
-// A clock in which no bad status stands in W: memory is read before its write.
+// A clock in which no bad status stands in W: fetch reads memory before the clock's write.
 pub fn advance(
     settings: Settings,
     flow: Flow,
@@ -132,14 +130,12 @@ pub fn advance(
     let codes = flow.codes;
     let ahead = flow.ahead;
     let in_m = ahead.m;
-    let executed = after_e(e, codes);
-    let kind = kind_m(m);
-    let accessed = after_m(kind, m, memory);
     let fetched = fetch_now(ahead.wrong, m, w, flow.predicted, memory);
+    let accessed = after_m(m, memory);
+    let executed = after_e(e, codes);
     let targets = targets_m(executed);
     let sources = sources_d(d);
     let decoded = write_and_decode(d, sources, targets, executed, accessed, w, ahead, registers);
-    memory_after(kind, m, memory);
     let s = signals_now(settings, sources, targets, d, e, m, executed, accessed);
     let carried = Ahead {
         m: next_targets(s.fails, targets),

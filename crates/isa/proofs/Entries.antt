@@ -1,7 +1,7 @@
 -- What the numbers of the constant tables decide is what the rows say. Assumes nothing.
 use Prim.Native.Nat.{ℕ, zero, suc}
 use mathlib.Core.Path.{_≡_, refl}
-use mathlib.Core.Bool.{not, _||_, cond}
+use mathlib.Core.Bool.{true, false, not, _||_, cond}
 use lib.Dec.{eqb}
 use Rattle.machine.specs.declared.Instruction.{Instruction}
 use Rattle.machine.specs.declared.Decoded.{Decoded}
@@ -66,6 +66,14 @@ stores-by loadsAtE = refl
 stores-by loadsAtA = refl
 stores-by storesA = refl
 stores-by storesNext = refl
+
+pub loads-or-stores : (k : Accesses) → loading k ≡ true → storing k ≡ false
+unfolding loading storing
+loads-or-stores noAccess h = refl
+loads-or-stores loadsAtE h = refl
+loads-or-stores loadsAtA h = refl
+loads-or-stores storesA h = cc
+loads-or-stores storesNext h = cc
 
 pub accesses-by : (k : Accesses) → not (eqb (accessesNumber k) 0) ≡ (loading k || storing k)
 unfolding accessesNumber loading storing

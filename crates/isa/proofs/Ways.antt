@@ -22,13 +22,13 @@ use Rattle.machine.specs.declared.Accessed.{Accessed}
 use Rattle.machine.specs.Types.{isBad}
 use Rattle.machine.specs.Words.{sum, difference, signed, outside}
 use Rattle.machine.specs.Memory.{Memory, inside, load, store}
-use Rattle.machine.specs.Table.{rowOf, table, is}
+use Rattle.machine.specs.Table.{rowOf, table, is, Accesses}
 use Rattle.machine.specs.Stages.{sourceA, sourceB, resultTarget, loadedTarget}
 use Rattle.machine.specs.Stages.{operated, overflows, operatedCodes, codesBy, newCodes, condition, result, outcome, execute}
-use Rattle.machine.specs.Stages.{loads, stores, accessAddress, storedWord, accessStatus, access, newMemory, turned, straight, nextAddress}
+use Rattle.machine.specs.Stages.{loading, storing, loads, stores, accessAddress, storedWord, accessStatus, access, newMemory, turned, straight, nextAddress}
 use Rattle.lookup.specs.Numbers.{whichNumber, computesNumber}
-use Rattle.isa.specs.Decisions.{accessKind, registerBy, computedBy}
-use Rattle.isa.proofs.Entries.{register-by, computed-by, none-set, loads-by, stores-by, accesses-by, addressed-by, stored-by}
+use Rattle.isa.specs.Decisions.{accessKind, accessedWith, registerBy, computedBy}
+use Rattle.isa.proofs.Entries.{register-by, computed-by, none-set, loads-by, stores-by, loads-or-stores, accesses-by, addressed-by, stored-by}
 
 pub missing : {A : Type 0} (l : List A) (k : ℕ) (d : A) → length l ≤ k → d ≡ getD l k d
 missing l k d h = sym (List·getD-eq-default l d h)
@@ -176,10 +176,11 @@ pub no-word : (x : Executed) (m : Memory) (k : ℕ) → k ≡ accessKind x → (
 unfolding loads
 no-word x m k q h = cc (loads-by (rowOf (x .instruction .code) .accesses))
 
-pub accessed-is : (x : Executed) (m : Memory) (v : ℕ) (s : Status) → v ≡ cond (loads (x .instruction)) (load m (accessAddress x)) 0 → s ≡ accessStatus x m
-    → record { instruction = x .instruction; result = x .result; holds = x .holds; word = v; status = s } ≡ access x m
-unfolding access
-accessed-is x m v s e f = cc
+pub accessed-is : (x : Executed) (m : Memory) (v : ℕ) (s : Status) (y : Accessed) → v ≡ cond (loads (x .instruction)) (load m (accessAddress x)) 0
+    → s ≡ accessStatus x m
+    → y ≡ accessedWith x v s → y ≡ access x m
+unfolding access accessedWith
+accessed-is x m v s y e f p = cc
 
 pub updated : (x : Executed) (m m′ : Memory) (k a v : ℕ) → k ≡ accessKind x → (eqb k 3 || eqb k 4) ≡ true → a ≡ accessAddress x → v ≡ storedWord x
     → m′ ≡ store m a v → m′ ≡ newMemory x m
@@ -189,3 +190,46 @@ updated x m m′ k a v q h e f p = cc (stores-by (rowOf (x .instruction .code) .
 pub left-alone : (x : Executed) (m : Memory) (k : ℕ) → k ≡ accessKind x → (eqb k 3 || eqb k 4) ≡ false → m ≡ newMemory x m
 unfolding newMemory stores
 left-alone x m k q h = cc (stores-by (rowOf (x .instruction .code) .accesses))
+
+-- access and write in one
+both-same : {A : Type 0} (b : Bool) (v : A) → cond b v v ≡ v
+both-same true v = refl
+both-same false v = refl
+
+load-outside : (m : Memory) (a : ℕ) → inside m a ≡ false → load m a ≡ 0
+unfolding load
+load-outside m a h = cc
+
+store-outside : (m : Memory) (a v : ℕ) → inside m a ≡ false → store m a v ≡ m
+unfolding store
+store-outside m a v h = cc
+
+module _ (x : Executed) (m : Memory) (k : ℕ) (q : k ≡ accessKind x) (y : Accessed) where
+  abbrev row : Accesses
+  row = rowOf (x .instruction .code) .accesses
+
+  pub without-access : k ≡ 0 → y ≡ accessedWith x 0 (x .instruction .status) → (y ≡ access x m) × (m ≡ newMemory x m)
+  unfolding access accessedWith accessStatus loads stores newMemory
+  without-access h e = (cc (loads-by row, stores-by row), cc (stores-by row))
+
+  module _ (some : k ≡ 0 → ⊥) (a : ℕ) (ea : a ≡ accessAddress x) (n : Bool) (en : n ≡ inside m a) where
+    pub outside-memory : n ≡ false → y ≡ accessedWith x 0 adr → (y ≡ access x m) × (m ≡ newMemory x m)
+    unfolding access accessedWith accessStatus loads stores newMemory
+    outside-memory h e = (
+      cc (accesses-by row, ne-eqb k 0 some, load-outside m a (cc), both-same {A = ℕ} (loading row) 0),
+      cc (store-outside m a (storedWord x) (cc), both-same (storing row) m),
+    )
+
+    module _ (h : n ≡ true) where
+      pub loaded-inside : (v : ℕ) → (eqb k 1 || eqb k 2) ≡ true → v ≡ load m a → y ≡ accessedWith x v (x .instruction .status)
+          → (y ≡ access x m) × (m ≡ newMemory x m)
+      unfolding access accessedWith accessStatus loads stores newMemory
+      loaded-inside v t p e = (cc (loads-by row), cc (loads-or-stores row (cc (loads-by row))))
+
+      pub stored-inside : (v : ℕ) (m′ : Memory) → (eqb k 1 || eqb k 2) ≡ false → v ≡ storedWord x → m′ ≡ store m a v
+          → y ≡ accessedWith x 0 (x .instruction .status) → (y ≡ access x m) × (m′ ≡ newMemory x m)
+      unfolding access accessedWith accessStatus loads stores newMemory
+      stored-inside v m′ t p f e = (
+        cc (loads-by row, accesses-by row, ne-eqb k 0 some),
+        cc (loads-by row, accesses-by row, ne-eqb k 0 some),
+      )

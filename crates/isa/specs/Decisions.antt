@@ -5,6 +5,8 @@ use lib.Dec.{eqb}
 use Rattle.machine.specs.declared.Instruction.{Instruction}
 use Rattle.machine.specs.declared.Decoded.{Decoded}
 use Rattle.machine.specs.declared.Executed.{Executed}
+use Rattle.machine.specs.declared.Accessed.{Accessed}
+use Rattle.machine.specs.declared.Status.{Status}
 use Rattle.machine.specs.Words.{sum, difference}
 use Rattle.machine.specs.Table.{rowOf}
 use Rattle.machine.specs.Stages.{operated}
@@ -13,6 +15,10 @@ use Rattle.lookup.specs.Numbers.{accessesNumber}
 -- the number of an executed instruction's access, which is read once and handed on
 abbrev pub accessKind : Executed → ℕ
 accessKind x = accessesNumber (rowOf (x .instruction .code) .accesses)
+
+-- an executed instruction after its access, with the word v loaded and the status s
+unfoldable pub accessedWith : Executed → ℕ → Status → Accessed
+accessedWith x v s = record { instruction = x .instruction; result = x .result; holds = x .holds; word = v; status = s }
 
 -- the register that a number names, 15 for none
 unfoldable pub registerBy : ℕ → Instruction → ℕ

@@ -1,4 +1,4 @@
-// The memory stage. The table is read once for an access and its write, and its number handed on.
+// The memory stage. The table is read once for an access, and its number handed on.
 use lookup::accesses_of;
 use lookup::numbers::LOADS_AT_A;
 use lookup::numbers::LOADS_AT_E;
@@ -12,15 +12,7 @@ ghost use mathlib.Core.Path.{_≡_};
 ghost use mathlib.Core.Bool.{cond};
 ghost use Rattle.machine.specs.Memory.{lent, load as loadOf};
 ghost use Rattle.machine.specs.Stages.{loads, accessAddress, storedWord, accessStatus, access as accessOf, newMemory};
-ghost use Rattle.isa.specs.Decisions.{accessKind};
-
-// The number of an instruction's access.
-pub fn access_kind(x: Executed) -> u8
-    ensures { λ r. ⌜ r ≡ accessKind x ⌝ }
-{
-    let i = x.instruction;
-    accesses_of(i.code)
-}
+ghost use Rattle.isa.specs.Decisions.{accessKind, accessedWith};
 
 // popq and ret load from the old rsp.
 fn access_address(kind: u8, x: Executed) -> u64
@@ -71,13 +63,10 @@ fn loaded_word(kind: u8, x: Executed, memory: &[u8]) -> u64
     }
 }
 
-pub fn access(kind: u8, x: Executed, memory: &[u8]) -> Accessed
-    requires { ⌜ kind ≡ accessKind x ⌝ }
-    ensures { λ r. ⌜ r ≡ accessOf x (lent (now (memory .entry))) ⌝ }
+fn accessed(x: Executed, word: u64, status: Status) -> Accessed
+    ensures { λ r. ⌜ r ≡ accessedWith x word status ⌝ }
 {
     let i = x.instruction;
-    let word = loaded_word(kind, x, memory);
-    let status = access_status(kind, x, memory);
     Accessed {
         instruction: i,
         result: x.result,
@@ -87,13 +76,47 @@ pub fn access(kind: u8, x: Executed, memory: &[u8]) -> Accessed
     }
 }
 
-// The clock's or the step's write.
-pub fn update(kind: u8, x: Executed, memory: &mut [u8])
-    requires { ⌜ kind ≡ accessKind x ⌝ }
+pub fn access(x: Executed, memory: &[u8]) -> Accessed
+    ensures { λ r. ⌜ r ≡ accessOf x (lent (now (memory .entry))) ⌝ }
+{
+    let i = x.instruction;
+    let kind = accesses_of(i.code);
+    let word = loaded_word(kind, x, memory);
+    accessed(x, word, access_status(kind, x, memory))
+}
+
+// The step's write.
+pub fn update(x: Executed, memory: &mut [u8])
     ensures { λ _. ⌜ lent (now (memory .exit)) ≡ newMemory x (lent (now (memory .entry))) ⌝ }
 {
+    let i = x.instruction;
+    let kind = accesses_of(i.code);
     let stores = (kind == STORES_A) | (kind == STORES_NEXT);
     if stores {
         word::store(memory, access_address(kind, x), stored_word(kind, x));
+    }
+}
+
+// The clock's access and write in one, so that the table is read and the address tested once; most instructions have no access.
+pub fn access_and_update(x: Executed, memory: &mut [u8]) -> Accessed
+    ensures { λ r. ⌜ (r ≡ accessOf x (lent (now (memory .entry)))) × (lent (now (memory .exit)) ≡ newMemory x (lent (now (memory .entry)))) ⌝ }
+{
+    let i = x.instruction;
+    let kind = accesses_of(i.code);
+    let status = i.status;
+    if kind == NO_ACCESS {
+        return accessed(x, 0, status);
+    }
+    let at = access_address(kind, x);
+    if word::inside(memory, at) {
+        if (kind == LOADS_AT_E) | (kind == LOADS_AT_A) {
+            let word = word::load(memory, at);
+            accessed(x, word, status)
+        } else {
+            word::store(memory, at, stored_word(kind, x));
+            accessed(x, 0, status)
+        }
+    } else {
+        accessed(x, 0, Status::Adr)
     }
 }

@@ -1,7 +1,6 @@
 // The plain engine: one instruction at a time.
 use fetching::instruction_at;
 use isa::accessing::access;
-use isa::accessing::access_kind;
 use isa::accessing::update;
 use isa::decoding::is_bad;
 use isa::decoding::loaded_target;
@@ -131,13 +130,12 @@ fn advance(m: Machine, memory: &mut [u8]) -> Machine
     let x = decoded(m, i);
     let codes = m.codes;
     let e = execute(x, codes);
-    let kind = access_kind(e);
-    let w = access(kind, e, memory);
+    let w = access(e, memory);
     let status = w.status;
     if is_bad(status) {
         return after_stop(m, status);
     }
-    update(kind, e, memory);
+    update(e, memory);
     after_performed(m, x, w)
 }
 

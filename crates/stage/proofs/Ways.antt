@@ -16,10 +16,9 @@ use Rattle.machine.specs.Stages.{execute, access, newCodes, newMemory, sourceA,
 use Rattle.clocked.specs.Prediction.{Core, coreOf, rule, guess, predictedNext, mispredicted, meets}
 use Rattle.clocked.specs.Pipeline.{afterE, afterM, codesAfter, memoryAfter, wrong, retInD, retInE, retInM, badInW, returnedTo}
 use Rattle.stage.specs.Addresses.{mendedBy}
-use Rattle.isa.specs.Decisions.{accessKind}
 use Rattle.stage.specs.declared.forwarding.Targets.{Targets}
 use Rattle.stage.specs.declared.forwarding.Sources.{Sources}
-use Rattle.stage.specs.Forwarding.{noTargets, targetsOf, targetsM, kindM, targetsW, sourcesD, resultM, resultW, wordW, writtenBy, sourceBy, decodedBy}
+use Rattle.stage.specs.Forwarding.{noTargets, targetsOf, targetsM, targetsW, sourcesD, resultM, resultW, wordW, writtenBy, sourceBy, decodedBy}
 
 -- THE WORK OF A STAGE
 pub e-bubble : (e : StageE) (c : Codes) → e ≡ bubbleE → bubbleM ≡ afterE e c
@@ -29,18 +28,6 @@ e-bubble e c h = cc
 pub e-works : (e : StageE) (c : Codes) (x : Decoded) (y : Executed) → e ≡ inE x → y ≡ execute x c → inM y ≡ afterE e c
 unfolding afterE
 e-works e c x y h p = cc
-
-pub no-kind : (s : StageM) → s ≡ bubbleM → 0 ≡ kindM s
-unfolding kindM
-no-kind s h = cc
-
-pub kind-of : (s : StageM) (x : Executed) (k : ℕ) → s ≡ inM x → k ≡ accessKind x → k ≡ kindM s
-unfolding kindM
-kind-of s x k h p = cc
-
-pub kind-in : (s : StageM) (x : Executed) (k : ℕ) → s ≡ inM x → k ≡ kindM s → k ≡ accessKind x
-unfolding kindM
-kind-in s x k h p = cc
 
 pub m-bubble : (s : StageM) (m : Memory) → s ≡ bubbleM → bubbleW ≡ afterM s m
 unfolding afterM

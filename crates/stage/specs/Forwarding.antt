@@ -5,7 +5,6 @@ use lib.Dec.{eqb, ltb}
 use Rattle.stage.specs.Types.{Instruction, StageD, bubbleD, inD, StageE, bubbleE, inE, StageM, bubbleM, inM, StageW, bubbleW, inW}
 use Rattle.machine.specs.Memory.{Registers, value, written}
 use Rattle.machine.specs.Stages.{sourceA, sourceB, resultTarget, loadedTarget}
-use Rattle.isa.specs.Decisions.{accessKind}
 use Rattle.stage.specs.declared.forwarding.Targets.{Targets}
 use Rattle.stage.specs.declared.forwarding.Sources.{Sources}
 
@@ -20,11 +19,6 @@ targetsOf i h = record { result = resultTarget i h; loaded = loadedTarget i }
 unfoldable pub targetsM : StageM → Targets
 targetsM bubbleM = noTargets
 targetsM (inM x) = targetsOf (x .instruction) (x .holds)
-
--- the number of M's access, 0 for none
-unfoldable pub kindM : StageM → ℕ
-kindM bubbleM = 0
-kindM (inM x) = accessKind x
 
 -- the targets of W's instruction, or of M's after its access
 unfoldable pub targetsW : StageW → Targets

@@ -5,20 +5,17 @@ use borrow.Author.Needs.{needs}
 use Rattle.flow.proofs.advance.Statement.{statement}
 use Rattle.flow.proofs.advance.Tie as tie
 
-start-of : tie.After-after-e → tie.Start
+start-of : tie.After-fetch-now → tie.Start
 start-of c = search
 
-after-e-requires : tie.Need-after-e-requires
-after-e-requires c κs = search needs
-
-kind-m-requires : tie.Need-kind-m-requires
-kind-m-requires c κs = search needs
+fetch-now-requires : tie.Need-fetch-now-requires
+fetch-now-requires c κs = search (needs, wrong-carried)
 
 after-m-requires : tie.Need-after-m-requires
 after-m-requires c κs = search needs
 
-fetch-now-requires : tie.Need-fetch-now-requires
-fetch-now-requires c κs = search needs
+after-e-requires : tie.Need-after-e-requires
+after-e-requires c κs = search needs
 
 targets-m-requires : tie.Need-targets-m-requires
 targets-m-requires c κs = search needs
@@ -31,9 +28,6 @@ write-and-decode-requires c κs =
     let accessed : tie.After-after-m = search in
     let start : tie.Start = search in
     (search needs, search needs, search needs, search (needs, m-carried), search (needs, w-carried))
-
-memory-after-requires : tie.Need-memory-after-requires
-memory-after-requires c κs = search needs
 
 signals-now-requires : tie.Need-signals-now-requires
 signals-now-requires c κs = search needs
@@ -57,7 +51,11 @@ next-codes-requires : tie.Need-next-codes-requires
 next-codes-requires c κs = search needs
 
 same-length : tie.Need-same-length
-same-length c = search needs
+same-length c =
+    let signals : tie.After-signals-now = search in
+    let decoded : tie.After-write-and-decode = search in
+    let accessed : tie.After-after-m = search in
+    search (needs, accessed .after-m .kept)
 
 returns : tie.Need-returns
 unfolding start-of
@@ -68,33 +66,30 @@ returns c =
     let to-f : tie.After-next-f = search in
     let carried : tie.After-next-targets = search in
     let signals : tie.After-signals-now = search in
-    let written : tie.After-memory-after = search in
     let decoded : tie.After-write-and-decode = search in
     let sources : tie.After-sources-d = search in
     let targets : tie.After-targets-m = search in
-    let fetched : tie.After-fetch-now = search in
+    let executed : tie.After-after-e = search in
     let accessed : tie.After-after-m = search in
-    let executed : tie.After-after-e = search in (
-      flow-is _ _ _ _ (start-of executed .pre .1) (executed .after-e .ensures) (accessed .after-m .ensures) (fetched .fetch-now .ensures)
+    let fetched : tie.After-fetch-now = search in (
+      flow-is _ _ _ _ (start-of fetched .pre .1) (executed .after-e .ensures) (accessed .after-m .ensures .0) (fetched .fetch-now .ensures)
           (targets .targets-m .ensures) (sources .sources-d .ensures) (decoded .write-and-decode .ensures .0) (signals .signals-now .ensures)
           (to-f .next-f .ensures) (to-d .next-d .ensures) (to-e .next-e .ensures) (to-m .next-m .ensures) (c .next-codes .ensures)
           (carried .next-targets .ensures),
       decoded .write-and-decode .ensures .1,
-      written .memory-after .ensures,
+      accessed .after-m .ensures .1,
     )
 
 pub advance-spec : {M : Type 1} → statement M
 advance-spec =
     tie.close
     (tie.spec
-    after-e-requires
-    kind-m-requires
-    after-m-requires
     fetch-now-requires
+    after-m-requires
+    after-e-requires
     targets-m-requires
     sources-d-requires
     write-and-decode-requires
-    memory-after-requires
     signals-now-requires
     next-targets-requires
     next-f-requires

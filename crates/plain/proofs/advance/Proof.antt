@@ -14,9 +14,6 @@ decoded-requires c κs = search needs
 execute-requires : tie.Need-execute-requires
 execute-requires c κs = search needs
 
-access-kind-requires : tie.Need-access-kind-requires
-access-kind-requires c κs = search needs
-
 access-requires : tie.Need-access-requires
 access-requires c κs = search needs
 
@@ -33,7 +30,7 @@ returns : tie.Need-returns
 returns c =
     let tested = c .before .before in
     let access = tested .before in
-    let execute : tie.After-execute = search in
+    let execute = access .before .before in
     let decode = execute .before .before in
     let fetch = decode .before in
     let start = fetch .before .before .before in
@@ -55,7 +52,7 @@ returns-2 c =
     let runs = updated .before .before in
     let tested = runs .before in
     let access = tested .before in
-    let execute : tie.After-execute = search in
+    let execute = access .before .before in
     let decode = execute .before .before in
     let fetch = decode .before in
     let start = fetch .before .before .before in
@@ -69,7 +66,6 @@ advance-spec =
     instruction-at-requires
     decoded-requires
     execute-requires
-    access-kind-requires
     access-requires
     is-bad-requires
     after-stop-requires

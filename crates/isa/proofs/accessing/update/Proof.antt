@@ -3,6 +3,9 @@ use borrow.Author.Needs.{needs}
 use Rattle.isa.proofs.accessing.update.Statement.{statement}
 use Rattle.isa.proofs.accessing.update.Tie as tie
 
+accesses-of-requires : tie.Need-accesses-of-requires
+accesses-of-requires c κs = search needs
+
 access-address-requires : tie.Need-access-address-requires
 access-address-requires c κs = search needs
 
@@ -25,6 +28,7 @@ pub update-spec : {M : Type 1} → statement M
 update-spec =
     tie.close
     (tie.spec
+    accesses-of-requires
     access-address-requires
     stored-word-requires
     store-requires
