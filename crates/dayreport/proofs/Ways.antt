@@ -98,8 +98,8 @@ pub replayed : (image image′ : List ℕ) (n : ℕ) (s : Settings) (fresh p : P
     → pipeAnswer n p (lent image′) [] [] ≡ pipeRunUnlogged fresh (lent image) 4000 → lent image′ ≡ imageRun image .memory
 unfolding imageRun
 replayed image image′ n s fresh p i e f =
-    let start = λ (x : Settings). pipeStart x (replicate 15 0) (record { zf = true; sf = false; of = false }) 0 in
-    ap (λ (o : PipeAnswer). o .memory) (f ∙ ap (λ (k : Pipeline). pipeRunUnlogged k (lent image) 4000) (e ∙ ap start i))
+    let started : fresh ≡ pipeStart asIn01 (replicate 15 0) (record { zf = true; sf = false; of = false }) 0 = cc in
+    ap (λ (o : PipeAnswer). o .memory) (f ∙ ap (λ (k : Pipeline). pipeRunUnlogged k (lent image) 4000) started)
 
 -- THE REQUEST
 module _ (q : Request) (image out : List ℕ) (i : Bool) (h : i ≡ imageRefused (length image)) {b : List ℕ} {r : ℕ} where

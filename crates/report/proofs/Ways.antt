@@ -45,9 +45,10 @@ pub replays : (image image′ out out′ : List ℕ) (n r : ℕ) (s : Settings) 
     → _≡_ {A = ℕ × List ℕ × List ℕ} (r, out′, image′) (replayed image out)
 unfolding imageRun reported replayed
 replays image image′ out out′ n r s fresh p i e f g =
+    let started : fresh ≡ pipeStart asIn01 (replicate 15 0) (record { zf = true; sf = false; of = false }) 0 = cc in
     subst
     (λ (o : PipeAnswer).
     let t = report (o .number) (o .pipeline) in
     _≡_ {A = ℕ × List ℕ × List ℕ} (r, out′, image′) (length t, t ++ drop (length t) out, o .memory .bytes))
-    (f ∙ ap (λ (k : Pipeline). pipeRunUnlogged k (lent image) 4000) (e ∙ ap (λ (x : Settings). pipeStart x (replicate 15 0) (record { zf = true; sf = false; of = false }) 0) i))
+    (f ∙ ap (λ (k : Pipeline). pipeRunUnlogged k (lent image) 4000) started)
     (ap (λ (x : ℕ × List ℕ). (x .0, x .1, image′)) g)
