@@ -70,7 +70,8 @@ same-bytes m m′ a h = ap (λ (n : ℕ). take n (drop a (m .bytes))) (same-size
     lengths : length (take (sizeAt m′ a) (drop a (m .bytes))) ≡ length (take (sizeAt m′ a) (drop a (m′ .bytes)))
     lengths = simp (length-take, length-drop) (ap (λ (n : ℕ). min (sizeAt m′ a) (n - a)) (h .long))
 
-    each : (i : ℕ) → i < length (take (sizeAt m′ a) (drop a (m .bytes))) → getD (take (sizeAt m′ a) (drop a (m .bytes))) i 0 ≡ getD (take (sizeAt m′ a) (drop a (m′ .bytes))) i 0
+    each : (i : ℕ) → i < length (take (sizeAt m′ a) (drop a (m .bytes)))
+        → getD (take (sizeAt m′ a) (drop a (m .bytes))) i 0 ≡ getD (take (sizeAt m′ a) (drop a (m′ .bytes))) i 0
     each i q =
         let z : i < min (sizeAt m′ a) (size m - a) = simp (length-take, length-drop) at q in
         let e = h .long in

@@ -108,7 +108,8 @@ module _ (q : Request) (image out : List ℕ) (i : Bool) (h : i ≡ imageRefused
   unfolding requested requestText imageLeft
   request-refused t e = rw (sym h ∙ t) (ap (λ (x : ℕ × List ℕ). (x .0, x .1, image)) e)
 
-  pub request-done : (image′ : List ℕ) (a : Answer) → i ≡ false → lent image′ ≡ imageRun image .memory → a ≡ judged (lent image′) (q .table) (q .length) (q .filed)
+  pub request-done : (image′ : List ℕ) (a : Answer) → i ≡ false → lent image′ ≡ imageRun image .memory
+      → a ≡ judged (lent image′) (q .table) (q .length) (q .filed)
       → _≡_ {A = ℕ × List ℕ} (r, b) (written (answerLines a) out) → _≡_ {A = ℕ × List ℕ × List ℕ} (r, b, image′) (requested q image out)
   unfolding requested requestText imageLeft dayAnswer
   request-done image′ a t m j e = rw (sym h ∙ t, ← m, ← j) (ap (λ (x : ℕ × List ℕ). (x .0, x .1, image′)) e)
