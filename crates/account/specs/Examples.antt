@@ -78,7 +78,8 @@ reached x =
     }
 
 -- the premise is met, every kind of charge is made, and each stop is reached: by a halt, a ret whose word is outside, and a code without functions
-pub each-stop : (figures 3 (program 0x00) 7 17 ≡ reached hlt) × (figures 3 (program 0x90) 7 17 ≡ reached adr) × (figures 3 (program unknownByte) 7 17 ≡ reached ins)
+pub each-stop : (figures 3 (program 0x00) 7 17 ≡ reached hlt) × (figures 3 (program 0x90) 7 17 ≡ reached adr)
+    × (figures 3 (program unknownByte) 7 17 ≡ reached ins)
 unfolding figures program reached
 each-stop = (refl, refl, refl)
 

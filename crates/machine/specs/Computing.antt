@@ -15,8 +15,8 @@ unfolding
     Memory.inside Memory.load Memory.store Memory.value Memory.written
     Table.table Table.rowOf Table.is
     Fetch.sizeAt Fetch.ownBytes Fetch.stopping Fetch.namesA Fetch.namesB Fetch.misnamed Fetch.checked Fetch.half Fetch.constantIn Fetch.parsed Fetch.fetch
-    Stages.register Stages.sourceA Stages.sourceB Stages.decode Stages.operated Stages.overflows Stages.operatedCodes Stages.codesBy Stages.newCodes Stages.condition
-    Stages.computed Stages.result Stages.outcome Stages.execute Stages.loading Stages.storing Stages.loads Stages.stores Stages.addressed
+    Stages.register Stages.sourceA Stages.sourceB Stages.decode Stages.operated Stages.overflows Stages.operatedCodes Stages.codesBy
+    Stages.newCodes Stages.condition Stages.computed Stages.result Stages.outcome Stages.execute Stages.loading Stages.storing Stages.loads Stages.stores Stages.addressed
     Stages.accessAddress Stages.stored Stages.storedWord Stages.accessStatus Stages.access Stages.newMemory Stages.resultTarget Stages.loadedTarget
     Stages.newRegisters Stages.turned Stages.straight Stages.nextAddress
     Plain.plainStart Plain.isStopped Plain.fetched Plain.decoded Plain.executed Plain.accessed Plain.performed Plain.stoppedBy Plain.step Plain.steps
