@@ -1,16 +1,16 @@
--- The pipelined run: what each of its entries gives back, refusals included.
+-- The pipelined run: what each of the entries gives back, refusals included.
 use Prim.Native.Nat.{ℕ}
 use mathlib.Core.Bool.{Bool, false, cond, _&&_, _||_}
 use mathlib.Core.List.{List, [], _∷_}
 use lib.Dec.{ltb, leb, eqb}
 use lib.ListN.{length}
-use Rattle.machine.specs.Memory.{Memory}
+use Rattle.machine.specs.Memory.{Memory, Registers}
 use Rattle.machine.specs.Table.{rowOf, is, cmov, operation, jump}
-use Rattle.machine.specs.Runs.{laid, sizeRefused, budgetRefused, logRefused, lowest}
+use Rattle.machine.specs.Runs.{laid, sizeRefused, budgetRefused, logRefused, startRefusal, lowest}
 use Rattle.clocked.specs.Record.{Pipeline, Instruction, StageD, bubbleD, inD, StageE, bubbleE, inE, StageM, bubbleM, inM, StageW, bubbleW, inW}
-use Rattle.clocked.specs.Record.{Kept, noneKept, lastKept}
+use Rattle.clocked.specs.Record.{Codes, Kept, noneKept, lastKept}
 use Rattle.clocked.specs.Prediction.{Settings}
-use Rattle.clocked.specs.Pipeline.{Piped, pipedOf, clocks}
+use Rattle.clocked.specs.Pipeline.{Piped, pipedOf, pipeStart, clocks}
 
 -- 5: "register number over 15, code without functions in the table, move or jump function over 6, OPq function over 3"
 unfoldable pub instructionRefused : Instruction → Bool
@@ -48,6 +48,10 @@ countsRefused k =
 unfoldable pub recordRefused : Pipeline → Bool
 recordRefused k =
     refusedInD (k .d) || (refusedInE (k .e) || (refusedInM (k .m) || (refusedInW (k .w) || (refusedKept (k .kept) || countsRefused k))))
+
+-- A FRESH START, refused as the plain engine's is
+unfoldable pub pipeStarted : ℕ → Registers → Codes → ℕ → ℕ × Pipeline
+pipeStarted size r c a = (startRefusal size a, pipeStart r c a)
 
 -- THE PIPELINED RUN
 -- "For the pipeline the limit is 262,145"

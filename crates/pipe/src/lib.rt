@@ -16,9 +16,10 @@ use machine::REGISTERS;
 use machine::Status;
 ghost use mathlib.Core.Path.{_≡_};
 ghost use mathlib.Core.List.{[]};
+ghost use Prim.Native.Nat.{ℕ};
+ghost use Rattle.clocked.specs.declared.Pipeline.{Pipeline as PipelineOf};
 ghost use Rattle.clocked.specs.Prediction.{asIn01};
-ghost use Rattle.clocked.specs.Pipeline.{pipeStart};
-ghost use Rattle.clocked.specs.PipeRuns.{pipeAnswer, pipeRun, pipeRunUnlogged, pipeClock};
+ghost use Rattle.clocked.specs.PipeRuns.{pipeStarted, pipeAnswer, pipeRun, pipeRunUnlogged, pipeClock};
 ghost use Rattle.pipe.specs.Parts.{answerBy};
 
 // Document 01's number, 0 or that of a refusal, and the record.
@@ -27,10 +28,11 @@ pub struct Answer {
     pub pipeline: Pipeline,
 }
 
-pub fn start(registers: [u64; REGISTERS], codes: Codes, address: u64) -> Pipeline
-    ensures { λ r. ⌜ r ≡ pipeStart registers codes address ⌝ }
+// A fresh start in memory of that size.
+pub fn start(size: usize, registers: [u64; REGISTERS], codes: Codes, address: u64) -> Answer
+    ensures { λ r. ⌜ _≡_ {A = ℕ × PipelineOf} (r .number, r .pipeline) (pipeStarted size registers codes address) ⌝ }
 {
-    Pipeline {
+    let fresh = Pipeline {
         predicted: address,
         d: StageD::BubbleD,
         e: StageE::BubbleE,
@@ -48,6 +50,10 @@ pub fn start(registers: [u64; REGISTERS], codes: Codes, address: u64) -> Pipelin
             returned: 0,
         },
         kept: Kept::NoneKept,
+    };
+    Answer {
+        number: answers::start_refusal(size, address),
+        pipeline: fresh,
     }
 }
 

@@ -13,7 +13,7 @@ returns : tie.Need-returns
 returns c = refuses _ _ _ _ _ _ _ (c .before .refusal .ensures) (c .if1 .taken)
 
 read-registers-requires : tie.Need-read-registers-requires
-read-registers-requires c κs = allowed _ _ _ _ _ _ (c .before .before .refusal .ensures) (c .before .if1 .left) .whole
+read-registers-requires c κs = allowed _ _ _ _ _ _ _ (c .before .before .refusal .ensures) (c .before .if1 .left) .whole
 
 codes-from-requires : tie.Need-codes-from-requires
 codes-from-requires c κs = search needs
@@ -27,17 +27,17 @@ run-unlogged-requires c κs = search needs
 write-registers-requires : tie.Need-write-registers-requires
 write-registers-requires c κs =
     let run = c .before .before .before .before in
-    let read = run .before .before .before .before in
+    let read = run .before .before .before .before .before in
     let tested = read .before .before in
-    allowed _ _ _ _ _ _ (tested .before .refusal .ensures) (tested .if1 .left) .whole
+    allowed _ _ _ _ _ _ _ (tested .before .refusal .ensures) (tested .if1 .left) .whole
 
 write-result-requires : tie.Need-write-result-requires
 write-result-requires c κs =
     let written = c .before .before .before .before in
     let run = written .before .before .before .before in
-    let read = run .before .before .before .before in
+    let read = run .before .before .before .before .before in
     let tested = read .before .before in
-    allowed _ _ _ _ _ _ (tested .before .refusal .ensures) (tested .if1 .left) .room
+    allowed _ _ _ _ _ _ _ (tested .before .refusal .ensures) (tested .if1 .left) .room
 
 same-length : tie.Need-same-length
 same-length c = search needs
@@ -53,11 +53,11 @@ returns-2 c =
     let answered = c .before .before in
     let written = answered .before .before .before .before in
     let run = written .before .before .before .before .before in
-    let fresh = run .before .before in
+    let fresh = run .before .before .before in
     let codes = fresh .before in
     let read = codes .before in
     let tested = read .before .before in
-    replays _ _ _ _ _ _ _ (tested .before .refusal .ensures) _ _ _ _ _ _ _ _ (tested .if1 .left) (read .read-registers .ensures)
+    replays _ _ _ _ _ _ _ (tested .before .refusal .ensures) _ _ _ _ _ _ _ _ _ (tested .if1 .left) (read .read-registers .ensures)
     (codes .codes-from .ensures) (fresh .start .ensures) (run .run-unlogged .ensures) (written .write-registers .ensures)
     (answered .write-result .ensures)
 

@@ -5,17 +5,11 @@ use borrow.Author.Needs.{needs}
 use Rattle.together.proofs.run_both.Statement.{statement}
 use Rattle.together.proofs.run_both.Tie as tie
 
-start-requires : tie.Need-start-requires
-start-requires c κs = search needs
+run-plain-requires : tie.Need-run-plain-requires
+run-plain-requires c κs = search needs
 
-run-requires : tie.Need-run-requires
-run-requires c κs = search needs
-
-start-requires-2 : tie.Need-start-requires-2
-start-requires-2 c κs = search needs
-
-run-requires-2 : tie.Need-run-requires-2
-run-requires-2 c κs = search needs
+run-pipe-requires : tie.Need-run-pipe-requires
+run-pipe-requires c κs = search needs
 
 same-length : tie.Need-same-length
 same-length c = search needs
@@ -34,23 +28,19 @@ same-length-5 c = search needs
 
 returns : tie.Need-returns
 returns c =
-    -- back from the end: the second run, the second start, the first run, the first start, the entry
-    let ran2 = c .before .before .before .before .before .before in
-    let started2 = ran2 .before .before .before .before in
-    let ran1 = started2 .before .before .before .before .before in
-    let started1 = ran1 .before .before .before in
-    let entry = started1 .before .before .before .before .before .before in
+    -- back from the end: the pipeline's run, the plain engine's, the entry
+    let piped = c .before .before .before .before .before .before in
+    let stepped = piped .before .before .before .before .before .before .before .before in
+    let entry = stepped .before .before .before .before .before .before .before .before in
     let long : length (entry .args .registers) ≡ 15 = search (needs, entry .good .0) in
-    both-ran _ _ _ _ _ _ _ long _ (started1 .start .ensures) _ (ran1 .run .ensures) _ (started2 .start2 .ensures) _ (ran2 .run2 .ensures)
+    both-ran _ _ _ _ _ _ _ long _ (stepped .run-plain .ensures) _ (piped .run-pipe .ensures)
 
 pub run-both-spec : {M : Type 1} → statement M
 run-both-spec =
     tie.close
     (tie.spec
-    start-requires
-    run-requires
-    start-requires-2
-    run-requires-2
+    run-plain-requires
+    run-pipe-requires
     same-length
     same-length-2
     same-length-3
