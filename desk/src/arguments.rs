@@ -5,11 +5,12 @@ use crate::inspect::Asked;
 use crate::judge;
 use crate::listing;
 use crate::Fault;
+use desk::second::machine::PROGRAM_LIMIT;
 use std::ffi::{OsStr, OsString};
 use std::path::PathBuf;
 
-/// The size of memory where none is given: the most that document 01 has.
-const SIZE: u64 = 4_096;
+/// The size of memory where none is given: the most that y86run holds.
+const SIZE: u64 = PROGRAM_LIMIT as u64;
 
 pub enum Command {
     Help,
@@ -155,7 +156,7 @@ impl Options {
     fn image(&mut self, command: &str) -> Result<PathBuf, Fault> {
         let wanted = || {
             usage(format!(
-                "{command} wants an image: a file of 1 to 4,096 raw bytes"
+                "{command} wants an image: a file of 1 to 65,536 raw bytes"
             ))
         };
         self.image.take().map(Into::into).ok_or_else(wanted)

@@ -13,7 +13,7 @@ pub use listings::{Damage, Listed, Listings};
 pub use random::Random;
 pub use records::Record;
 
-use crate::second::machine::{CYCLE_LIMIT, MEMORY_LIMIT};
+use crate::second::machine::{CYCLE_LIMIT, MEMORY_LIMIT, PROGRAM_LIMIT};
 use crate::second::replay::{REGISTER_BYTES, RESULT_BYTES};
 
 /// What a case is made to try.
@@ -33,10 +33,13 @@ pub enum Kind {
     SelfModifying,
     /// Refused calls, often for several reasons at once.
     Refusals,
+    /// Images of 4,096 to 65,536 bytes, with code, stack and data around 4,096
+    /// and at the end.
+    Large,
 }
 
 impl Kind {
-    pub const ALL: [Kind; 7] = [
+    pub const ALL: [Kind; 8] = [
         Kind::RandomBytes,
         Kind::Soup,
         Kind::Loops,
@@ -44,6 +47,7 @@ impl Kind {
         Kind::Charges,
         Kind::SelfModifying,
         Kind::Refusals,
+        Kind::Large,
     ];
 
     /// The name a table of counts shows.
@@ -56,6 +60,7 @@ impl Kind {
             Kind::Charges => "charges",
             Kind::SelfModifying => "self-modifying",
             Kind::Refusals => "refusals",
+            Kind::Large => "large",
         }
     }
 }
@@ -75,7 +80,7 @@ pub struct Case {
 /// Makes one case after the other.
 pub struct Generator {
     random: Random,
-    /// The last size of the sweep over all of them.
+    /// The last size of the sweep over all sizes up to 4,096.
     swept: usize,
 }
 
@@ -89,8 +94,24 @@ impl Generator {
 
     /// The next case, of any kind.
     pub fn case(&mut self) -> Case {
-        let kind = self.random.pick(&Kind::ALL);
+        let kind = self.kind();
         self.case_of(kind)
+    }
+
+    /// Any kind; few are large, as large images take long to compare.
+    fn kind(&mut self) -> Kind {
+        if self.random.chance(1, 64) {
+            return Kind::Large;
+        }
+        self.random.pick(&Kind::ALL[..Kind::ALL.len() - 1])
+    }
+
+    /// Any kind that is not made to be refused.
+    pub fn running_kind(&mut self) -> Kind {
+        match self.kind() {
+            Kind::Refusals => Kind::RandomBytes,
+            kind => kind,
+        }
     }
 
     /// The next case, of one kind.
@@ -106,6 +127,7 @@ impl Generator {
             Kind::Ends => programs::ends(random, size),
             Kind::Charges => programs::charges(random, size),
             Kind::SelfModifying => programs::self_modifying(random, size),
+            Kind::Large => programs::large(random, size),
             Kind::RandomBytes | Kind::Refusals => programs::random_bytes(random, size),
         };
         let registers = program.registers.iter().flat_map(|word| word.to_le_bytes());
@@ -121,16 +143,15 @@ impl Generator {
         }
     }
 
-    /// A memory size from 1 to 4,096. One in eight is the next of a sweep over
-    /// all sizes, and a few are the largest; the others are small more often,
-    /// as there the ends are near, but mostly with room for programs that have
-    /// a plan.
+    /// A memory size. One in eight is the next of a sweep over all sizes up to
+    /// 4,096, and a few are large; the others are small more often, as there
+    /// the ends are near, but mostly with room for programs that have a plan.
     fn size(&mut self, kind: Kind) -> usize {
-        if self.random.chance(1, 128) {
-            return MEMORY_LIMIT;
+        if kind == Kind::Large || self.random.chance(1, 128) {
+            return self.large_size();
         }
         if self.random.chance(1, 8) {
-            self.swept = self.swept % MEMORY_LIMIT + 1;
+            self.swept = self.swept % PROGRAM_LIMIT + 1;
             return self.swept;
         }
         let most = self.random.pick(&[24, 64, 256, 256, 512, 1_024]);
@@ -141,6 +162,15 @@ impl Generator {
             _ => false,
         };
         size + if room { 250 } else { 0 }
+    }
+
+    /// A memory size from 4,096 to 65,536, often at one of the ends.
+    fn large_size(&mut self) -> usize {
+        let between = MEMORY_LIMIT - PROGRAM_LIMIT;
+        let any = PROGRAM_LIMIT + self.random.below(between as u64) as usize;
+        let ends = [PROGRAM_LIMIT, PROGRAM_LIMIT + 1, MEMORY_LIMIT - 1];
+        self.random
+            .pick(&[ends[0], ends[1], ends[2], MEMORY_LIMIT, any, any])
     }
 
     /// A budget from 1 to the limit, small ones more often.
@@ -158,14 +188,14 @@ impl Generator {
 
     /// A case of another kind, spoilt in one way or in several.
     fn refused(&mut self) -> Case {
-        let kind = self.random.pick(&Kind::ALL[..Kind::ALL.len() - 1]);
+        let kind = self.running_kind();
         let swept = self.swept;
         let mut case = self.case_of(kind);
         // The sweep is for cases that run.
         self.swept = swept;
         case.kind = Kind::Refusals;
-        let first = self.random.below(5);
-        for way in 0..5 {
+        let first = self.random.below(6);
+        for way in 0..6 {
             if way == first || self.random.chance(1, 4) {
                 self.spoil(&mut case, way);
             }
@@ -177,20 +207,31 @@ impl Generator {
         let random = &mut self.random;
         let any = random.word();
         match way {
-            0 => {
-                let over = MEMORY_LIMIT + 1 + random.below(200) as usize;
-                let size = random.pick(&[0, MEMORY_LIMIT + 1, over]);
-                case.image = random.bytes(size);
-            }
+            0 => case.image = refused_memory(random),
             1 => case.registers = wrong_length(random, REGISTER_BYTES),
             2 => {
                 case.budget =
                     random.pick(&[0, CYCLE_LIMIT + 1, u64::MAX, CYCLE_LIMIT + any % 99 + 1])
             }
             3 => case.result = wrong_length(random, RESULT_BYTES),
-            _ => case.codes = random.pick(&[8, 9, 255, 256, 1 << 32, u64::MAX, any | 8]),
+            4 => case.codes = random.pick(&[8, 9, 255, 256, 1 << 32, u64::MAX, any | 8]),
+            _ => case.start = outside(random, case.image.len() as u64),
         }
     }
+}
+
+/// Memory that refusal 1 meets; mostly empty, as the other takes long to make.
+fn refused_memory(random: &mut Random) -> Vec<u8> {
+    let over = MEMORY_LIMIT + 1 + random.below(200) as usize;
+    let size = random.pick(&[0, 0, 0, 0, MEMORY_LIMIT + 1, over]);
+    random.bytes(size)
+}
+
+/// An address that is not below N.
+fn outside(random: &mut Random, size: u64) -> u64 {
+    let (few, far) = (random.below(20), random.word());
+    let behind = random.pick(&[0, 0, 1, few, far]);
+    random.pick(&[size.saturating_add(behind), u64::MAX])
 }
 
 /// A block of bytes that is too short or too long.

@@ -62,7 +62,7 @@ pub fn replay(asked: &Asked) -> Result<(String, u8), Fault> {
 /// block is this program's own, and has the right length.
 fn refusal(number: u64, asked: &Asked, image: &Source, registers: &Source) -> String {
     match number {
-        1 => format!("{}; an image has 1 to 4,096", image.says()),
+        1 => format!("{}; an image has 1 to 65,536", image.says()),
         2 => format!(
             "{}; a file of registers has 120, fifteen words of 8",
             registers.says()
@@ -74,6 +74,11 @@ fn refusal(number: u64, asked: &Asked, image: &Source, registers: &Source) -> St
         5 => format!(
             "the codes are {}; they have to be 0 to 7, as 4ZF + 2SF + OF",
             asked.codes
+        ),
+        6 => format!(
+            "the start address is {}; it has to be below {}, the bytes of the image",
+            asked.start,
+            image.bytes.len()
         ),
         _ => "the engine does not take this".into(),
     }

@@ -32,7 +32,7 @@ pub fn day(asked: &Asked) -> Result<(String, u8), Fault> {
     };
     let (mut memory, mut registers) = (image.bytes.clone(), [0; 120]);
     let outcome = engine::outcome(replay, &mut memory, &mut registers, 0, 4, 4_000)
-        .map_err(|_| refused(5, format!("{}; an image has 1 to 4,096", image.says())))?;
+        .map_err(|_| refused(5, format!("{}; an image has 1 to 65,536", image.says())))?;
     let words =
         judged(asked, &memory).map_err(|number| refused(number, why(number, asked, &memory)))?;
     let status = report::status(outcome.status, 4_000);

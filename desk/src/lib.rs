@@ -2,7 +2,7 @@
 //! independent second program, and a deterministic generator of cases to
 //! compare the two on.
 //!
-//! Document 01 decides every rule; its words are used throughout.
+//! Documents 01 and 02 decide every rule; their words are used throughout.
 
 pub mod engine;
 pub mod generate;

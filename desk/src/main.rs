@@ -25,7 +25,8 @@ usage:
   desk bench --instructions     count both engines' instructions (by valgrind)
   desk --help                   this text
 
-IMAGE is a file of 1 to 4,096 raw bytes: the memory, as it stands at the start.
+IMAGE is a file of 1 to 65,536 raw bytes: the memory, as it stands at the
+start. (The programs y86run and y86peaks hold at most 4,096.)
 
 LISTING is an image as text, one record a line, each ended by a line feed. Tabs
 part its fields: the address in hex (1 to 16 digits), the bytes in hex (two
@@ -33,12 +34,12 @@ digits each, 1 to 16 bytes), and, if there is more, a remark. Lines ascend
 without overlap. Bytes that no line names are 0.
 
 options for a listing:
-  --size N           how many bytes of memory the image has (4096)
+  --size N           how many bytes of memory the image has, 1 to 65,536 (4096)
   --listing          of replay and peaks: IMAGE is a listing (with --size, if
                      wanted)
 
 options of replay:
-  --start A          the address to start from (0)
+  --start A          the address to start from, inside the image (0)
   --codes C          the condition codes, 4ZF + 2SF + OF, 0 to 7 (4: ZF alone)
   --budget B         the most cycles to run, 1 to 262,145 (4000)
   --registers FILE   120 bytes: the words of rax rcx rdx rbx rsp rbp rsi rdi

@@ -137,12 +137,16 @@ fn files_that_cannot_be_read_are_explained() {
 fn refusals_are_explained_with_their_numbers() {
     let empty = file("empty.img", &[]);
     let image = file("one.img", &[0]);
-    let long = file("long.img", &vec![0; 4_097]);
+    let long = file("long.img", &vec![0; 65_537]);
     let longer = file("longer.img", &vec![0; 100_000]);
-    fault(&["replay", &empty], 10, &["(1)", "is empty", "1 to 4,096"]);
-    fault(&["replay", &long], 10, &["(1)", "4097", "1 to 4,096"]);
+    fault(&["replay", &empty], 10, &["(1)", "is empty", "1 to 65,536"]);
+    fault(&["replay", &long], 10, &["(1)", "65537", "1 to 65,536"]);
     fault(&["replay", &longer], 10, &["(1)", "100000 bytes"]);
-    fault(&["replay", "/dev/zero"], 10, &["(1)", "4097 bytes or more"]);
+    fault(
+        &["replay", "/dev/zero"],
+        10,
+        &["(1)", "65537 bytes or more"],
+    );
     fault(
         &["replay", &image, "--registers", &long],
         10,
@@ -156,9 +160,32 @@ fn refusals_are_explained_with_their_numbers() {
     fault(&["replay", &image, "--budget", "0"], 10, &["(3)", "262145"]);
     fault(&["replay", &image, "--budget", "262146"], 10, &["(3)"]);
     fault(&["replay", &image, "--codes", "8"], 10, &["(5)", "0 to 7"]);
+    let start = ["replay", &image, "--start", "1"];
+    fault(&start, 10, &["(6)", "start address is 1", "below 1"]);
+    fault(&[&start[..], &["--second"]].concat(), 10, &["(6)"]);
     let several = ["replay", &empty, "--codes", "8", "--budget", "0"];
     fault(&several, 10, &["(1)"]);
     fault(&[&several[..], &["--second"]].concat(), 10, &["(1)"]);
+}
+
+/// #109: the largest image is replayed, from its last byte too, and so is a
+/// listing in as much memory.
+#[test]
+fn a_large_image_is_replayed() {
+    let mut image = vec![0x10; 65_536];
+    image[65_535] = 0;
+    let raw = file("large.img", &image);
+    let listing = file("large.lst", b"0\t70ffff000000000000\n");
+    for words in [
+        &["replay", &raw, "--start", "65535"][..],
+        &["replay", &listing, "--listing", "--size", "65536"],
+    ] {
+        for second in [&[][..], &["--second"]] {
+            let (code, output, message) = said(&[words, second].concat());
+            assert_eq!((code, message.as_str()), (0, ""), "{words:?}");
+            assert!(output.contains("last     0xffff (65535)\n"), "{output}");
+        }
+    }
 }
 
 #[test]

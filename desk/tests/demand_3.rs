@@ -3,7 +3,7 @@
 
 mod common;
 
-use common::codes;
+use common::{codes, pipeline, plain};
 use desk::generate::{Case, Generator, Kind};
 use desk::second::account::{Account, Kind as Charge};
 use desk::second::machine::Status;
@@ -11,7 +11,7 @@ use desk::second::pipeline::{Kinds, Logs, Pipeline};
 use desk::second::plain::Plain;
 use desk::second::replay::read_registers;
 
-/// Programs of each kind that the account is tried on.
+/// Programs of each kind that the account is tried on; of large ones a tenth.
 const PROGRAMS: usize = 6_000;
 /// Instructions of a history; enough for every charge to come up.
 const MOST: usize = 120;
@@ -36,7 +36,7 @@ impl Follower {
     fn new(case: &Case) -> Follower {
         let registers = read_registers(&case.registers);
         Follower {
-            machine: Plain::fresh(registers, codes(case.codes), case.start),
+            machine: plain(&case.image, registers, codes(case.codes), case.start),
             memory: case.image.clone(),
         }
     }
@@ -56,11 +56,15 @@ fn the_pipeline_meets_the_account() {
         }
         let mut generator = Generator::new(31 + kind as u64);
         let mut seen = Seen::default();
-        for _ in 0..PROGRAMS {
+        let programs = match kind {
+            Kind::Large => PROGRAMS / 10,
+            _ => PROGRAMS,
+        };
+        for _ in 0..programs {
             compare(&generator.case_of(kind), &mut seen);
         }
         println!("{}: {seen:?}", kind.name());
-        assert!(seen.whole > PROGRAMS / 8, "{} {seen:?}", kind.name());
+        assert!(seen.whole > programs / 8, "{} {seen:?}", kind.name());
         assert!(seen.stops[2..].iter().all(|stops| *stops > 0));
         if kind != Kind::RandomBytes {
             assert!(seen.charged.iter().all(|cycles| *cycles > 20));
@@ -80,7 +84,7 @@ fn compare(case: &Case, seen: &mut Seen) {
     };
     let mut memory = case.image.clone();
     let registers = read_registers(&case.registers);
-    let mut machine = Pipeline::fresh(registers, codes(case.codes), case.start);
+    let mut machine = pipeline(&case.image, registers, codes(case.codes), case.start);
     let mut plain = [
         Follower::new(case),
         Follower::new(case),
@@ -161,7 +165,7 @@ fn compare_end(machine: &Pipeline, memory: &[u8], plain: &Follower, account: &Ac
 /// A run with logs; gives the record, the memory and the two logs.
 fn logged(case: &Case, budgets: &[u64]) -> (Pipeline, Vec<u8>, Vec<u64>, Vec<u64>) {
     let registers = read_registers(&case.registers);
-    let mut machine = Pipeline::fresh(registers, codes(case.codes), case.start);
+    let mut machine = pipeline(&case.image, registers, codes(case.codes), case.start);
     let mut memory = case.image.clone();
     let (mut addresses, mut cycles) = (Vec::new(), Vec::new());
     for budget in budgets {
@@ -197,7 +201,7 @@ fn running_a_then_b_equals_a_and_b() {
         assert!(joined == logged(&case, &[a, b]));
         let mut memory = case.image.clone();
         let registers = read_registers(&case.registers);
-        let mut machine = Pipeline::fresh(registers, codes(case.codes), case.start);
+        let mut machine = pipeline(&case.image, registers, codes(case.codes), case.start);
         for _ in 0..a + b {
             machine.clock(&mut memory).expect("a clock");
         }

@@ -2,13 +2,12 @@
 
 mod common;
 
-use common::{codes, registers, rsp, run_pipeline, run_plain, word};
+use common::{codes, pipeline, plain, registers, rsp, run_pipeline, run_plain, word};
 use desk::programs::{figure_4_8, from_hex, listing_001, listing_004, stretched_004};
 use desk::second::account::Account;
 use desk::second::arithmetic::operate;
 use desk::second::machine::Registers;
-use desk::second::pipeline::{Logs, Pipeline};
-use desk::second::plain::Plain;
+use desk::second::pipeline::Logs;
 use desk::second::word;
 use desk::second::{y86run, Status, RSP};
 
@@ -199,6 +198,7 @@ fn the_program_writes_the_stated_text() {
     let refused = "y86run\t1\nrefused\t1\n";
     assert_eq!(y86run(&[]), refused);
     assert_eq!(y86run(&vec![0; 4_097]), refused);
+    assert_eq!(y86run(&vec![0; 4_096]), y86run(&[0]));
     let listing = "y86run\t1\nstat\tHLT\nlast\t64\ncodes\t0\nretired\t11\ncycles\t20\n\
         loaduse\t0\nmispredict\t2\nreturn\t3\nreg\trax\t9\nreg\trdx\t9\nreg\trbx\t12\n\
         reg\trsp\t128\n";
@@ -212,7 +212,7 @@ fn the_program_writes_the_stated_text() {
 #[test]
 fn the_plain_log_shows_the_way() {
     let mut memory = listing_001();
-    let mut machine = Plain::fresh(Registers::default(), codes(4), 0);
+    let mut machine = plain(&memory, Registers::default(), codes(4), 0);
     let mut log = [7; 20];
     machine.run(&mut memory, 4, Some(&mut log)).expect("a run");
     assert_eq!(log[..5], [0, 0x0a, 0x14, 0x16, 7]);
@@ -272,7 +272,7 @@ fn reading_5_stopping_followers_are_charged() {
 #[test]
 fn reading_7_codes_run_ahead() {
     let mut memory = from_hex("6300");
-    let mut machine = Pipeline::fresh(registers(&[(0, 5)]), codes(0), 0);
+    let mut machine = pipeline(&memory, registers(&[(0, 5)]), codes(0), 0);
     machine.run(&mut memory, 3, None).expect("a run");
     assert_eq!((machine.codes.number(), machine.retired), (4, 0));
     assert_eq!(machine.registers.0[0], 5);
@@ -308,6 +308,6 @@ fn reading_10_the_premise() {
 
 fn account_of(image: &[u8]) -> Account {
     let mut memory = image.to_vec();
-    let mut machine = Plain::fresh(Registers::default(), codes(4), 0);
+    let mut machine = plain(&memory, Registers::default(), codes(4), 0);
     Account::of(&mut machine, &mut memory, 1_000)
 }

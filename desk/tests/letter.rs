@@ -3,8 +3,8 @@
 
 mod common;
 
-use common::codes;
 use common::tally::{Classes, Tally};
+use common::{codes, pipeline};
 use desk::generate::{Call, Calls, Origin, Way};
 use desk::second::letter;
 use desk::second::machine::{Refusal, Registers, Status};
@@ -26,6 +26,7 @@ const CLASSES: &Classes = &[
     ("plain answer", &["0", "1", "3", "4"]),
     ("pipeline record", &RECORDS),
     ("pipeline answer", &["0", "1", "3", "4", "5"]),
+    ("start answer", &["0", "1", "6"]),
 ];
 
 #[test]
@@ -46,7 +47,12 @@ fn the_fast_engines_are_the_letters_equal() {
             answer,
         );
     }
-    println!("compared {CALLS} calls of each engine");
+    for _ in 0..CALLS {
+        let (size, start) = calls.start();
+        let answer = compare_starts(size, start);
+        tally.count("start answer", number_name(answer));
+    }
+    println!("compared {CALLS} calls of each engine, and as many starts");
     println!("{}", tally.table(CLASSES));
     tally.check(CLASSES, 1);
 }
@@ -57,10 +63,25 @@ fn count(
     origin: Origin,
     answer: Result<(), Refusal>,
 ) {
-    const NUMBERS: [&str; 6] = ["0", "1", "2", "3", "4", "5"];
     tally.count(record, RECORDS[origin as usize]);
-    let number = answer.map_or_else(Refusal::number, |()| 0);
-    tally.count(answers, NUMBERS[number as usize]);
+    tally.count(answers, number_name(answer));
+}
+
+fn number_name(answer: Result<(), Refusal>) -> &'static str {
+    const NUMBERS: [&str; 7] = ["0", "1", "2", "3", "4", "5", "6"];
+    NUMBERS[answer.map_or_else(Refusal::number, |()| 0) as usize]
+}
+
+/// A fresh start of each engine, fast and by the letter.
+fn compare_starts(size: u64, start: u64) -> Result<(), Refusal> {
+    let (registers, codes) = (Registers::default(), codes(4));
+    let fast = Plain::fresh(size, registers, codes, start);
+    let expected = letter::Machine::fresh(size, registers, codes, start);
+    assert_eq!(fast, expected.map(|record| plain(&record)));
+    let fast = Pipeline::fresh(size, registers, codes, start);
+    let expected = letter::Pipeline::fresh(size, registers, codes, start);
+    assert_eq!(fast, expected.map(|record| packed(&record)));
+    fast.map(|_| ())
 }
 
 fn compare_plain(mut call: Call<letter::Machine>, number: u64) -> Result<(), Refusal> {
@@ -191,7 +212,7 @@ fn written(w: &letter::Accessed) -> Instruction {
 #[test]
 fn only_a_false_cmov_loses_its_target() {
     for (code, written) in [(3, 9), (2, 0)] {
-        let mut machine = Pipeline::fresh(Registers::default(), codes(0), 0);
+        let mut machine = pipeline(&[0x10], Registers::default(), codes(0), 0);
         let instruction = Instruction::new(5, (code, 1), (0, 1), Status::Aok).decided(false);
         machine.w = Some(Writing {
             instruction,
@@ -208,7 +229,7 @@ fn only_a_false_cmov_loses_its_target() {
 #[test]
 fn a_kept_unconditional_jump_charges_nothing() {
     for (function, charged) in [(0, 0), (1, 2)] {
-        let mut machine = Pipeline::fresh(Registers::default(), codes(0), 0);
+        let mut machine = pipeline(&[0x10], Registers::default(), codes(0), 0);
         let jump = Instruction::new(5, (7, function), (15, 15), Status::Aok);
         machine.kept = Some(jump.decided(false));
         machine.w = Some(Writing {

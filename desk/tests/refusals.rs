@@ -4,6 +4,7 @@ mod common;
 
 use common::codes;
 use desk::programs::listing_001;
+use desk::second::letter;
 use desk::second::machine::{Refusal, Registers, Status, CYCLE_LIMIT, PLAIN_LIMIT};
 use desk::second::pipeline::{Kinds, Logs, Pipeline};
 use desk::second::plain::Plain;
@@ -11,11 +12,11 @@ use desk::second::replay;
 use desk::second::stages::{Accessing, Decoding, Executing, Instruction, Writing};
 
 fn plain() -> Plain {
-    Plain::fresh(Registers::default(), codes(4), 0)
+    common::plain(&[0x10], Registers::default(), codes(4), 0)
 }
 
 fn pipeline() -> Pipeline {
-    Pipeline::fresh(Registers::default(), codes(4), 0)
+    common::pipeline(&[0x10], Registers::default(), codes(4), 0)
 }
 
 /// A plain run with a log of a length, all compared afterwards.
@@ -39,8 +40,9 @@ fn plain_runs_are_refused_by_number() {
     full.count = u64::MAX;
     let cases = [
         (plain(), 0, 0, 0, Some(Refusal::Memory)),
-        (plain(), 4_097, 1, 1, Some(Refusal::Memory)),
-        (plain(), 4_096, 0, 0, Some(Refusal::Budget)),
+        (plain(), 65_537, 1, 1, Some(Refusal::Memory)),
+        (plain(), 65_536, 0, 0, Some(Refusal::Budget)),
+        (plain(), 65_536, 1, 1, None),
         (plain(), 1, PLAIN_LIMIT + 1, 0, Some(Refusal::Budget)),
         (plain(), 1, u64::MAX, 0, Some(Refusal::Budget)),
         (plain(), 1, PLAIN_LIMIT, 65_535, Some(Refusal::Buffer)),
@@ -99,29 +101,20 @@ fn pipelined_runs_are_refused_by_number() {
     let mut bad = late;
     bad.retired = u64::MAX;
     let limit = CYCLE_LIMIT as usize;
+    let over = Some(Refusal::Budget);
     let cases = [
         (bad, 0, 0, (0, 0), Some(Refusal::Memory)),
-        (bad, 1, 0, (0, 0), Some(Refusal::Budget)),
-        (bad, 1, 11, (0, 0), Some(Refusal::Budget)),
+        (bad, 1, 0, (0, 0), over),
+        (bad, 1, 11, (0, 0), over),
         (bad, 1, 10, (9, 10), Some(Refusal::Buffer)),
         (bad, 1, 10, (10, 9), Some(Refusal::Buffer)),
         (bad, 1, 10, (10, 10), Some(Refusal::Record)),
         (late, 1, 10, (10, 10), None),
+        (late, 65_536, 10, (10, 10), None),
+        (late, 65_537, 10, (10, 10), Some(Refusal::Memory)),
         (pipeline(), 1, CYCLE_LIMIT, (limit, limit), None),
-        (
-            pipeline(),
-            1,
-            CYCLE_LIMIT + 1,
-            (limit, limit),
-            Some(Refusal::Budget),
-        ),
-        (
-            pipeline(),
-            1,
-            u64::MAX,
-            (limit, limit),
-            Some(Refusal::Budget),
-        ),
+        (pipeline(), 1, CYCLE_LIMIT + 1, (limit, limit), over),
+        (pipeline(), 1, u64::MAX, (limit, limit), over),
     ];
     for (machine, size, budget, logs, expected) in cases {
         assert_eq!(pipeline_refusal(machine, size, budget, logs), expected);
@@ -225,12 +218,54 @@ fn counts_above_the_cycles_are_refused() {
     );
 }
 
-/// All combinations of the five refusals at the host edge.
+/// #109: a fresh start is refused for the size of memory, and last for an
+/// address that is not below it. By the letter too.
+#[test]
+fn fresh_starts_are_refused_by_number() {
+    let limit = 65_536;
+    let cases = [
+        (0, 0, Some(Refusal::Memory)),
+        (0, u64::MAX, Some(Refusal::Memory)),
+        (limit + 1, 0, Some(Refusal::Memory)),
+        (u64::MAX, u64::MAX, Some(Refusal::Memory)),
+        (1, 0, None),
+        (1, 1, Some(Refusal::Start)),
+        (4_097, 4_096, None),
+        (limit, limit - 1, None),
+        (limit, limit, Some(Refusal::Start)),
+        (limit, u64::MAX, Some(Refusal::Start)),
+    ];
+    let (registers, codes) = (Registers::default(), codes(4));
+    for (size, start, expected) in cases {
+        let answers = [
+            Plain::fresh(size, registers, codes, start).err(),
+            Pipeline::fresh(size, registers, codes, start).err(),
+            letter::Machine::fresh(size, registers, codes, start).err(),
+            letter::Pipeline::fresh(size, registers, codes, start).err(),
+        ];
+        assert_eq!(answers, [expected; 4], "{start} in {size} bytes");
+    }
+}
+
+/// A run that goes on from a record does not ask where it started: in less
+/// memory than that, it stops with ADR.
+#[test]
+fn a_run_that_goes_on_is_not_refused_for_its_start() {
+    let (registers, codes) = (Registers::default(), codes(4));
+    let mut machine = Plain::fresh(9, registers, codes, 8).expect("a start");
+    assert_eq!(machine.step(&mut [0x10; 8]), Ok(()));
+    assert_eq!((machine.status, machine.last), (Status::Adr, 8));
+    let mut machine = Pipeline::fresh(9, registers, codes, 8).expect("a start");
+    assert_eq!(machine.run(&mut [0x10; 8], 9, None), Ok(()));
+    assert_eq!((machine.status, machine.last), (Status::Adr, 8));
+}
+
+/// All combinations of the six refusals at the host edge.
 #[test]
 fn the_host_edge_refuses_by_the_lowest_number() {
-    for spoilt in 0..32_u64 {
+    for spoilt in 0..64_u64 {
         let way = |number: u64| spoilt >> (number - 1) & 1 == 1;
-        let sizes = if way(1) { [0, 4_097] } else { [1, 4_096] };
+        let sizes = if way(1) { [0, 65_537] } else { [1, 65_536] };
         let block = if way(2) { 119 } else { 120 };
         let budgets = if way(3) {
             [0, CYCLE_LIMIT + 1]
@@ -242,8 +277,16 @@ fn the_host_edge_refuses_by_the_lowest_number() {
         for (size, budget) in [(sizes[0], budgets[1]), (sizes[1], budgets[0])] {
             let (mut memory, mut registers) = (vec![0; size], vec![3; block]);
             let mut result = vec![5; words];
-            let answer = replay(&mut memory, &mut registers, &mut result, 0, codes, budget);
-            let lowest = (1..=5).find(|number| way(*number)).unwrap_or(0);
+            let start = if way(6) { size as u64 } else { 0 };
+            let answer = replay(
+                &mut memory,
+                &mut registers,
+                &mut result,
+                start,
+                codes,
+                budget,
+            );
+            let lowest = (1..=6).find(|number| way(*number)).unwrap_or(0);
             assert_eq!(answer, lowest);
             if lowest > 0 {
                 assert_eq!((memory, registers), (vec![0; size], vec![3; block]));

@@ -7,7 +7,7 @@ use lib.Dec.{ltb}
 use borrow.Author.Tests.{eq-eqb, ne-eqb, lt-ltb, le-ltb, ltb-true, ltb-false}
 use Rattle.machine.specs.declared.Codes.{Codes}
 use Rattle.machine.specs.Types.{codesNumber}
-use Rattle.machine.specs.Runs.{budgetRefused}
+use Rattle.machine.specs.Runs.{sizeRefused, budgetRefused, startRefused, startRefusal, lowest}
 
 pub no-budget : (l c b : ℕ) → b ≡ 0 → true ≡ budgetRefused l c b
 unfolding budgetRefused
@@ -24,6 +24,21 @@ rest l c b h k = go (ltb (l - b) c) refl
     go : (t : Bool) → ltb (l - b) c ≡ t → ltb (l - b) c ≡ budgetRefused l c b
     go true e = cc (ne-eqb b 0 h, lt-ltb l (c + b) (omega (arith, ltb-true (l - b) c e)))
     go false e = cc (ne-eqb b 0 h, le-ltb l (c + b) (omega (arith, ltb-false (l - b) c e)))
+
+-- A FRESH START, each test in its order
+module _ (size address : ℕ) (x : Bool) (hx : x ≡ sizeRefused size) where
+  pub no-size : x ≡ true → 1 ≡ startRefusal size address
+  unfolding startRefusal lowest
+  no-size t = cc
+
+  module _ (fx : x ≡ false) (y : Bool) (hy : y ≡ startRefused size address) where
+    pub not-below : y ≡ true → 6 ≡ startRefusal size address
+    unfolding startRefusal lowest
+    not-below t = cc
+
+    pub starts : y ≡ false → 0 ≡ startRefusal size address
+    unfolding startRefusal lowest
+    starts t = cc
 
 pub codes-is : (c : Codes) (z s o : ℕ) → z ≡ cond (c .zf) 1 0 → s ≡ cond (c .sf) 1 0 → o ≡ cond (c .of) 1 0 → 4 * z + 2 * s + o ≡ codesNumber c
 unfolding codesNumber

@@ -6,13 +6,33 @@ ghost use mathlib.Core.Bool.{cond};
 ghost use Prim.Native.Nat.{_≤_};
 ghost use lib.ListN.{set};
 ghost use Rattle.machine.specs.Types.{codesNumber};
-ghost use Rattle.machine.specs.Runs.{sizeRefused, budgetRefused};
+ghost use Rattle.machine.specs.Runs.{sizeRefused, budgetRefused, startRefused, startRefusal};
 
-// Refusal 1: no memory, or more than 4,096 bytes.
+// Refusal 1: no memory, or more than 65,536 bytes.
 pub fn size_refused(size: usize) -> bool
     ensures { λ r. ⌜ r ≡ sizeRefused size ⌝ }
 {
     (size == 0) | (MEMORY_LIMIT < size)
+}
+
+// Refusal 6: a fresh start's address is not below N.
+pub fn start_refused(size: usize, address: u64) -> bool
+    ensures { λ r. ⌜ r ≡ startRefused size address ⌝ }
+{
+    size as u64 <= address
+}
+
+// The lowest refusal of a fresh start, or 0.
+pub fn start_refusal(size: usize, address: u64) -> u64
+    ensures { λ r. ⌜ r ≡ startRefusal size address ⌝ }
+{
+    if size_refused(size) {
+        return 1;
+    }
+    if start_refused(size, address) {
+        return 6;
+    }
+    0
 }
 
 // Refusal 3: no budget, or one that passes the limit; no sum is made that could wrap.

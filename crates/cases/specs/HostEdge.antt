@@ -1,5 +1,5 @@
 -- The host edge's rules, rows as in the crate records.
-use Prim.Native.Nat.{ℕ, zero, suc, _+_, _*_}
+use Prim.Native.Nat.{ℕ, zero, suc, _+_, _-_, _*_, _^_}
 use Prim.Native.String.{String}
 use mathlib.Core.Bool.{false}
 use mathlib.Core.List.{List, [], _∷_}
@@ -35,9 +35,9 @@ result j r = number 8 (r .result) (8 * j)
 abbrev word : ℕ → Edge → ℕ
 word a r = number 8 (r .memory) a
 
--- the number with these sizes, codes and budget
-abbrev refuses : String → ℕ → (memory registers result codes budget : ℕ) → Row
-refuses s n m r b c y = numbers s (edgeRefusal m r b c y ∷ []) (n ∷ [])
+-- the number with these sizes, start, codes and budget
+abbrev refuses : String → ℕ → (memory registers result start codes budget : ℕ) → Row
+refuses s n m r b a c y = numbers s (edgeRefusal m r b a c y ∷ []) (n ∷ [])
 
 unfoldable pub rowsOfReplays : List Row
 rowsOfReplays =
@@ -48,6 +48,10 @@ rowsOfReplays =
     ((answer, 0) ∷ (result 0, 1) ∷ (result 1, 1) ∷ (result 2, 3) ∷ (result 3, 1) ∷ (result 4, 5) ∷ [])
     ∷ replays "R11.4 last address: the start, before any retired" 3 3 0x10_10_00 1 3 4 ((result 0, 1) ∷ (result 1, 1) ∷ (result 3, 0) ∷ (result 4, 4) ∷ [])
     -- "codes as 4ZF + 2SF + OF"
+    -- #109: "a fresh start address not below N" is refused; an address reached later is ADR, as before
+    ∷ replays "R14.1 the last byte of memory is a start" 3 3 0x10_10_00 2 3 9 ((answer, 0) ∷ (result 0, 2) ∷ (result 1, 2) ∷ [])
+    ∷ replays "R14.1 6 changes nothing" 3 3 0x10_10_00 3 3 9 ((answer, 6) ∷ (result 0, 0x0909090909090909) ∷ (register 0, 100) ∷ [])
+    ∷ replays "R14.7 an address outside that is reached stops with ADR" 2 2 0x10_10 1 3 9 ((answer, 0) ∷ (result 0, 3) ∷ (result 1, 2) ∷ [])
     ∷ replays "R15.1 codes: OF" 1 1 0x00 0 1 5 ((result 2, 1) ∷ [])
     ∷ replays "R15.1 codes: SF, by which jl goes to 10" 11 9 0x72_0a00000000000000 0 2 9 ((result 1, 10) ∷ (result 2, 2) ∷ [])
     ∷ replays "R15.1 codes: ZF, by which je goes to 10" 11 9 0x73_0a00000000000000 0 4 9 ((result 1, 10) ∷ (result 2, 4) ∷ [])
@@ -64,21 +68,24 @@ rowsOfBytes =
 -- each refusal at both ends
 unfoldable pub rowsOfRefusals : List Row
 rowsOfRefusals =
-    refuses "R14.1 1: N is 0" 1 0 120 40 7 1
-    ∷ refuses "R14.1 1: N is above 4,096" 1 4097 120 40 7 1
-    ∷ refuses "R15.2 2: registers not 120 bytes: one less" 2 1 119 40 7 1
-    ∷ refuses "R15.2 2: registers not 120 bytes: one more" 2 1 121 40 7 1
-    ∷ refuses "R15.4 3: budget 0" 3 1 120 40 7 0
-    ∷ refuses "R15.4 3: budget over the limit" 3 1 120 40 7 262146
-    ∷ refuses "R15.2 4: result block not 40 bytes: one less" 4 1 120 39 7 1
-    ∷ refuses "R15.2 4: result block not 40 bytes: one more" 4 1 120 41 7 1
-    ∷ refuses "R14.1 5: codes over 7" 5 1 120 40 8 1
-    ∷ refuses "R14.2 0: each at its end" 0 4096 120 40 7 262145
+    refuses "R14.1 1: N is 0" 1 0 120 40 0 7 1
+    ∷ refuses "R14.1 1: N is above 65,536" 1 65537 120 40 0 7 1
+    ∷ refuses "R15.2 2: registers not 120 bytes: one less" 2 1 119 40 0 7 1
+    ∷ refuses "R15.2 2: registers not 120 bytes: one more" 2 1 121 40 0 7 1
+    ∷ refuses "R15.4 3: budget 0" 3 1 120 40 0 7 0
+    ∷ refuses "R15.4 3: budget over the limit" 3 1 120 40 0 7 262146
+    ∷ refuses "R15.2 4: result block not 40 bytes: one less" 4 1 120 39 0 7 1
+    ∷ refuses "R15.2 4: result block not 40 bytes: one more" 4 1 120 41 0 7 1
+    ∷ refuses "R14.1 5: codes over 7" 5 1 120 40 0 8 1
+    ∷ refuses "R14.1 6: a start at N" 6 4096 120 40 4096 7 1
+    ∷ refuses "R14.1 6: the highest start" 6 65536 120 40 (2 ^ 64 - 1) 7 1
+    ∷ refuses "R14.2 0: each at its end" 0 65536 120 40 65535 7 262145
     -- "Lowest number wins": with all wrong at first, and the lowest put right each time
-    ∷ refuses "R14.2 1 before 2 to 5" 1 0 0 0 8 0
-    ∷ refuses "R14.2 2 before 3 to 5" 2 1 0 0 8 0
-    ∷ refuses "R14.2 3 before 4 and 5" 3 1 120 0 8 0
-    ∷ refuses "R14.2 4 before 5" 4 1 120 0 8 1
+    ∷ refuses "R14.2 1 before 2 to 6" 1 0 0 0 1 8 0
+    ∷ refuses "R14.2 2 before 3 to 6" 2 1 0 0 1 8 0
+    ∷ refuses "R14.2 3 before 4 to 6" 3 1 120 0 1 8 0
+    ∷ refuses "R14.2 4 before 5 and 6" 4 1 120 0 1 8 1
+    ∷ refuses "R14.2 5 before 6" 5 1 120 40 1 8 1
     ∷ []
 
 -- every row holds: of each list none is failing
@@ -88,7 +95,7 @@ edge-rows-hold = (refl, refl, refl)
 
 -- "number, nothing changed", by whatever number it is refused
 pub edge-unchanged : (m registers result : List ℕ) (start codes budget : ℕ)
-    → let n = edgeRefusal (length m) (length registers) (length result) codes budget in
+    → let n = edgeRefusal (length m) (length registers) (length result) start codes budget in
     eqb n 0 ≡ false → replayed m registers result start codes budget ≡ edge n m registers result
 unfolding replayed
 edge-unchanged m registers result start codes budget h = rw h

@@ -3,12 +3,13 @@ use mathlib.Core.Path.{_≡_, refl, sym, _∙_}
 use mathlib.Core.List.{List, [], _∷_, _++_}
 use Prim.Native.Nat.{ℕ, zero, suc, _+_}
 use lib.ListN.{drop, replicate}
+use Rattle.clocked.specs.PipeRuns.{PipeAnswer}
 use Rattle.text.specs.Bytes.{bytes}
 use Rattle.text.specs.Decimal.{digits, decimal}
 use Rattle.text.specs.Put.{written}
 use Rattle.report_lines.specs.Lines.{line, statusText, statusLine, countLines, kindLines}
 use Rattle.register_lines.specs.Registers.{registerNames, registerName, registerLine, registerLines}
-use Rattle.report.specs.Report.{endLines, report, imageRun, reported, replayed}
+use Rattle.report.specs.Report.{endLines, report, imageRefused, imageStart, imageRun, reported, replayed}
 use Rattle.cases.specs.Names.{Pipeline}
 use Rattle.cases.specs.Computing.{computing}
 use Rattle.cases.specs.Promises.{Operation}
@@ -19,6 +20,10 @@ use Rattle.cases.specs.Wrong.{FallsFoul, differs}
 abbrev pub report-image : Operation
 report-image = record { Given = List ℕ × List ℕ; Answer = ℕ × List ℕ × List ℕ; promised = λ x. replayed (x .0) (x .1) }
 
+-- report::run_image: the image as lent; the answer of its run, with the image afterwards
+abbrev pub image-run : Operation
+image-run = record { Given = List ℕ; Answer = PipeAnswer; promised = imageRun }
+
 -- report::write_report: an answer's number and record, and the buffer as lent; how many bytes are handed over, and the buffer
 abbrev pub write-report : Operation
 write-report = record { Given = ℕ × Pipeline × List ℕ; Answer = ℕ × List ℕ; promised = λ x. written (report (x .0) (x .1)) (x .2) }
@@ -26,13 +31,16 @@ write-report = record { Given = ℕ × Pipeline × List ℕ; Answer = ℕ × Lis
 pub one-report-image : OneAnswer report-image
 one-report-image x r s a b = a ∙ sym b
 
+pub one-image-run : OneAnswer image-run
+one-image-run x r s a b = a ∙ sym b
+
 pub one-write-report : OneAnswer write-report
 one-write-report x r s a b = a ∙ sym b
 
 -- a report, to be computed
 unfoldable pub writes : List ℕ → List ℕ
 unfolding computing bytes digits decimal line statusText statusLine registerNames registerName registerLine registerLines
-    countLines kindLines endLines report imageRun reported
+    countLines kindLines endLines report imageRefused imageStart imageRun reported
 writes image = reported image
 
 -- "For the one byte 00 it writes exactly these lines"

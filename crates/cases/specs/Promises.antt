@@ -5,10 +5,8 @@ use mathlib.Core.Path.{_≡_}
 use mathlib.Core.List.{List}
 use Rattle.machine.specs.Memory.{Memory, Registers}
 use Rattle.clocked.specs.declared.Settings.{Settings}
-use Rattle.machine.specs.Plain.{plainStart}
-use Rattle.clocked.specs.Pipeline.{pipeStart}
-use Rattle.machine.specs.Runs.{fetchAnswer, PlainAnswer, plainStep, plainRun}
-use Rattle.clocked.specs.PipeRuns.{PipeAnswer, pipeClock, pipeRun, pipeRunUnlogged}
+use Rattle.machine.specs.Runs.{fetchAnswer, plainStarted, PlainAnswer, plainStep, plainRun}
+use Rattle.clocked.specs.PipeRuns.{pipeStarted, PipeAnswer, pipeClock, pipeRun, pipeRunUnlogged}
 use Rattle.account.specs.Statement.{Start}
 use Rattle.peaks.specs.declared.Answer.{Answer}
 use Rattle.peaks.specs.Day.{judged}
@@ -40,9 +38,9 @@ promising G A f = record { Given = G; Answer = A; promised = f }
 abbrev pub fetching : Operation
 fetching = promising (Memory × ℕ) FetchAnswer (λ x. fetchAnswer (x .0) (x .1))
 
--- plain::start: a fresh start of registers, codes and address
+-- plain::start: a fresh start in memory of a size, of registers, codes and address; the number, and the record
 abbrev pub plain-start : Operation
-plain-start = promising (Registers × Codes × ℕ) Machine (λ x. plainStart (x .0) (x .1) (x .2))
+plain-start = promising (ℕ × Registers × Codes × ℕ) (ℕ × Machine) (λ x. plainStarted (x .0) (x .1) (x .2) (x .3))
 
 -- plain::step: "A step or clock is a run of 1 without logs."
 abbrev pub plain-step : Operation
@@ -52,9 +50,10 @@ plain-step = promising (Machine × Memory) PlainAnswer (λ x. plainStep (x .0) (
 abbrev pub plain-run : Operation
 plain-run = promising (Machine × Memory × ℕ × List ℕ) PlainAnswer (λ x. plainRun (x .0) (x .1) (x .2) (x .3))
 
--- pipe::start: "At a fresh start F holds the start address and the rest are bubbles."
+-- pipe::start: the same. "At a fresh start F holds the start address and the rest are bubbles."
 abbrev pub pipe-start : Operation
-pipe-start = promising (Settings × Registers × Codes × ℕ) Pipeline (λ x. pipeStart (x .0) (x .1) (x .2) (x .3))
+pipe-start =
+    promising (Settings × ℕ × Registers × Codes × ℕ) (ℕ × Pipeline) (λ x. pipeStarted (x .0) (x .1) (x .2) (x .3) (x .4))
 
 -- pipe::clock: one clock
 abbrev pub pipe-clock : Operation

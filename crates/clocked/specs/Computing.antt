@@ -20,6 +20,6 @@ unfolding
     Pipeline.clockBy Pipeline.clock Pipeline.clocks
     Premise.writesByte Premise.hasByte
     PipeRuns.instructionRefused PipeRuns.refusedInD PipeRuns.refusedInE PipeRuns.refusedInM PipeRuns.refusedInW PipeRuns.refusedKept
-    PipeRuns.countsRefused PipeRuns.settingsRefused PipeRuns.recordRefused PipeRuns.pipeRefusal PipeRuns.pipeDone PipeRuns.pipeBy PipeRuns.pipeRun PipeRuns.pipeRunUnlogged
+    PipeRuns.countsRefused PipeRuns.settingsRefused PipeRuns.recordRefused PipeRuns.pipeStartRefusal PipeRuns.pipeStarted PipeRuns.pipeRefusal PipeRuns.pipeDone PipeRuns.pipeBy PipeRuns.pipeRun PipeRuns.pipeRunUnlogged
     PipeRuns.pipeClock
 computing = tt

@@ -1,16 +1,16 @@
--- The pipelined run: what each of its entries gives back, refusals included.
+-- The pipelined run: what each of the entries gives back, refusals included.
 use Prim.Native.Nat.{ℕ}
 use mathlib.Core.Bool.{Bool, false, cond, _&&_, _||_}
 use mathlib.Core.List.{List, [], _∷_}
 use lib.Dec.{ltb, leb, eqb}
 use lib.ListN.{length}
-use Rattle.machine.specs.Memory.{Memory, size}
+use Rattle.machine.specs.Memory.{Memory, size, Registers}
 use Rattle.machine.specs.Table.{rowOf, is, cmov, operation, jump}
-use Rattle.machine.specs.Runs.{laid, sizeRefused, budgetRefused, logRefused, lowest}
+use Rattle.machine.specs.Runs.{laid, sizeRefused, budgetRefused, logRefused, startRefused, lowest}
 use Rattle.clocked.specs.Record.{Settings, Pipeline, Instruction, StageD, bubbleD, inD, StageE, bubbleE, inE, StageM, bubbleM, inM, StageW, bubbleW, inW}
-use Rattle.clocked.specs.Record.{Kept, noneKept, lastKept}
+use Rattle.clocked.specs.Record.{Codes, Kept, noneKept, lastKept}
 use Rattle.clocked.specs.Prediction.{coreOf}
-use Rattle.clocked.specs.Pipeline.{Piped, pipedOf, clocks}
+use Rattle.clocked.specs.Pipeline.{Piped, pipedOf, pipeStart, clocks}
 
 -- 5: "register number over 15, code without functions in the table, move or jump function over 6, OPq function over 3"
 unfoldable pub instructionRefused : Instruction → Bool
@@ -53,6 +53,13 @@ unfoldable pub recordRefused : Pipeline → Bool
 recordRefused k =
     settingsRefused (k .settings)
     || (refusedInD (k .d) || (refusedInE (k .e) || (refusedInM (k .m) || (refusedInW (k .w) || (refusedKept (k .kept) || countsRefused k)))))
+
+-- A FRESH START, refused as the plain engine's is, and for its settings
+unfoldable pub pipeStartRefusal : Settings → (size address : ℕ) → ℕ
+pipeStartRefusal s size a = lowest ((1, sizeRefused size) ∷ (5, settingsRefused s) ∷ (6, startRefused size a) ∷ [])
+
+unfoldable pub pipeStarted : Settings → ℕ → Registers → Codes → ℕ → ℕ × Pipeline
+pipeStarted s size r c a = (pipeStartRefusal s size a, pipeStart s r c a)
 
 -- THE PIPELINED RUN
 -- "For the pipeline the limit is 262,145"

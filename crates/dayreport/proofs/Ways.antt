@@ -5,15 +5,13 @@ use mathlib.Core.Bool.{Bool, true, false, cond}
 use mathlib.Core.List.{List, [], _++_, append-nil}
 use mathlib.Core.Path.{_≡_, refl, sym, ap, subst, _∙_}
 use lib.Dec.{T}
-use lib.ListN.{length, take, drop, replicate, length-drop, drop-of-length-le}
+use lib.ListN.{length, take, drop, length-drop, drop-of-length-le}
 use lib.Seq.{take-length}
 use borrow.Rule.Slice.PartMut.{midOf, putMid, post-is}
 use Rattle.clocked.specs.declared.Settings.{Settings}
 use Rattle.clocked.specs.declared.Pipeline.{Pipeline}
 use Rattle.machine.specs.Memory.{Memory, lent}
-use Rattle.clocked.specs.Prediction.{asIn01}
-use Rattle.clocked.specs.Pipeline.{pipeStart}
-use Rattle.clocked.specs.PipeRuns.{PipeAnswer, pipeAnswer, pipeRunUnlogged}
+use Rattle.clocked.specs.PipeRuns.{pipeAnswer}
 use Rattle.peaks.specs.declared.Comparison.{Comparison}
 use Rattle.peaks.specs.declared.Raw.{Raw}
 use Rattle.peaks.specs.declared.Found.{Found}
@@ -24,14 +22,14 @@ use Rattle.peaks.specs.declared.Answer.the-variants.{Refused as refused, Judged
 use Rattle.peaks.specs.Day.{meanBits, judged}
 use Rattle.peaks.specs.Division.{meanIsNumber, judged-number}
 use Rattle.report_lines.specs.Lines.{numberLine}
-use Rattle.report.specs.Report.{imageRun}
+use Rattle.report.specs.Report.{imageRefused, imageRun}
 use Rattle.text.specs.Put.{Put, put-both, put-front, written}
 use Rattle.dayreport.specs.declared.line.Request.{Request}
 use Rattle.dayreport.specs.declared.line.FirstLine.{FirstLine}
 use Rattle.dayreport.specs.declared.line.FirstLine.the-variants.{BadLine as badLine, Asks as asks}
 use Rattle.dayreport.specs.Line.{firstLine}
 use Rattle.dayreport.specs.Lines.{filedLine, peakLines, totalLines, foundLines, missing, missingLines, linesOf, dayLines, answerLines}
-use Rattle.dayreport.specs.Program.{answerNumbered, imageRefused, dayAnswer, requestText, imageLeft, requested, inputText, inputLeft}
+use Rattle.dayreport.specs.Program.{answerNumbered, dayAnswer, requestText, requested, inputText, inputLeft}
 use Rattle.dayreport.specs.Program.{writtenFor, answeredInput}
 
 -- LINES
@@ -92,27 +90,18 @@ unfolding answerNumbered
 judged-numbered (refused k) m table n filed h = tt
 judged-numbered (judgedAs d) m table n filed h = judged-number m table n filed d (sym h)
 
--- THE REPLAY
-pub replayed : (image image′ : List ℕ) (n : ℕ) (s : Settings) (fresh p : Pipeline) → s ≡ asIn01
-    → fresh ≡ pipeStart s (replicate 15 0) (record { zf = true; sf = false; of = false }) 0
-    → pipeAnswer n p (lent image′) [] [] ≡ pipeRunUnlogged fresh (lent image) 4000 → lent image′ ≡ imageRun image .memory
-unfolding imageRun
-replayed image image′ n s fresh p i e f =
-    let started : fresh ≡ pipeStart asIn01 (replicate 15 0) (record { zf = true; sf = false; of = false }) 0 = cc in
-    ap (λ (o : PipeAnswer). o .memory) (f ∙ ap (λ (k : Pipeline). pipeRunUnlogged k (lent image) 4000) started)
-
 -- THE REQUEST
 module _ (q : Request) (image out : List ℕ) (i : Bool) (h : i ≡ imageRefused (length image)) {b : List ℕ} {r : ℕ} where
   pub request-refused : i ≡ true → _≡_ {A = ℕ × List ℕ} (r, b) (written (numberLine "refused" 5) out)
       → _≡_ {A = ℕ × List ℕ × List ℕ} (r, b, image) (requested q image out)
-  unfolding requested requestText imageLeft
+  unfolding requested requestText imageRun
   request-refused t e = rw (sym h ∙ t) (ap (λ (x : ℕ × List ℕ). (x .0, x .1, image)) e)
 
-  pub request-done : (image′ : List ℕ) (a : Answer) → i ≡ false → lent image′ ≡ imageRun image .memory
+  pub request-done : (n : ℕ) (p : Pipeline) (image′ : List ℕ) (a : Answer) → i ≡ false → pipeAnswer n p (lent image′) [] [] ≡ imageRun image
       → a ≡ judged (lent image′) (q .table) (q .length) (q .filed)
       → _≡_ {A = ℕ × List ℕ} (r, b) (written (answerLines a) out) → _≡_ {A = ℕ × List ℕ × List ℕ} (r, b, image′) (requested q image out)
-  unfolding requested requestText imageLeft dayAnswer
-  request-done image′ a t m j e = rw (sym h ∙ t, ← m, ← j) (ap (λ (x : ℕ × List ℕ). (x .0, x .1, image′)) e)
+  unfolding requested requestText dayAnswer
+  request-done n p image′ a t m j e = rw (sym h ∙ t, ← m, ← j) (ap (λ (x : ℕ × List ℕ). (x .0, x .1, image′)) e)
 
 -- THE INPUT
 -- the part of a text from a place on, lent and put back

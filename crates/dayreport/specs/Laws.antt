@@ -5,11 +5,8 @@ use native.Mathlib.Omega.{arith}
 use mathlib.Core.Bool.{false}
 use mathlib.Core.List.{List, [], _∷_, _++_, append-assoc}
 use mathlib.Core.Path.{_≡_, refl, ap}
-use lib.Dec.{eqb, ltb}
 use lib.ListN.{length, length-append}
-use Rattle.machine.specs.Runs.{sizeRefused}
-use Rattle.laws.specs.Tests.{neither}
-use Rattle.report.specs.Report.{imageRun}
+use Rattle.report.specs.Report.{imageRefused, imageRun}
 use Rattle.report.specs.Laws.{refused-by-size}
 use Rattle.text.specs.declared.reading.Field.the-variants.{Number as number}
 use Rattle.text.specs.Decimal.{decimal, isDigit}
@@ -18,14 +15,11 @@ use Rattle.text.specs.Put.{written-within}
 use Rattle.text.specs.ReadBack.{read-back}
 use Rattle.dayreport.specs.declared.line.FirstLine.the-variants.{Asks as asks}
 use Rattle.dayreport.specs.Line.{thirdOf, secondOf, firstOf, firstLine}
-use Rattle.dayreport.specs.Program.{imageRefused, writtenFor, answeredInput}
+use Rattle.dayreport.specs.Program.{writtenFor, answeredInput}
 
 -- THE RUN INSIDE: what is let in is run, and not refused
 pub never-refused : (image : List ℕ) → imageRefused (length image) ≡ false → imageRun image .number ≡ 0
-unfolding imageRefused sizeRefused
-never-refused image h =
-    let p = neither (eqb (length image) 0) (ltb 4096 (length image)) h in
-    rw (refused-by-size image, p .0, p .1)
+never-refused image h = rw (refused-by-size image, h)
 
 -- THE BUFFER: the bytes handed over stand in it
 pub handed-over : (input out out′ input′ : List ℕ) (n : ℕ) → _≡_ {A = ℕ × List ℕ × List ℕ} (n, out′, input′) (answeredInput input out) → n ≤ length out′

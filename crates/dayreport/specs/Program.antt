@@ -1,15 +1,14 @@
 -- #114, "A second program": what y86peaks answers, whatever bytes it read.
 use Prim.Native.Nat.{ℕ}
-use mathlib.Core.Bool.{Bool, true, cond, _||_}
+use mathlib.Core.Bool.{Bool, true, cond}
 use mathlib.Core.List.{List, _++_}
-use lib.Dec.{eqb, ltb}
 use lib.ListN.{length, take, drop}
 use Rattle.peaks.specs.declared.Answer.{Answer}
 use Rattle.peaks.specs.declared.Answer.the-variants.{Refused as refused, Judged as judgedAs}
 use Rattle.peaks.specs.Day.{judged}
 use Rattle.peaks.specs.Division.{meanIsNumber}
 use Rattle.report_lines.specs.Lines.{numberLine}
-use Rattle.report.specs.Report.{imageRun}
+use Rattle.report.specs.Report.{imageRefused, imageRun}
 use Rattle.dayreport.specs.declared.line.Request.{Request}
 use Rattle.dayreport.specs.declared.line.FirstLine.{FirstLine}
 use Rattle.dayreport.specs.declared.line.FirstLine.the-variants.{BadLine as badLine, Asks as asks}
@@ -21,25 +20,17 @@ unfoldable pub answerNumbered : Answer → Bool
 answerNumbered (refused k) = true
 answerNumbered (judgedAs d) = meanIsNumber (d .found)
 
--- "5 for an image that 01's refusal 1 meets": it is empty, or longer than the 4,096 bytes that the program holds
-unfoldable pub imageRefused : ℕ → Bool
-imageRefused size = eqb size 0 || ltb 4096 size
-
 -- THE DAY of the final memory of the pipelined run
 unfoldable pub dayAnswer : Request → List ℕ → Answer
 dayAnswer q image = judged (imageRun image .memory) (q .table) (q .length) (q .filed)
 
--- the bytes written for a request and the image behind it
+-- the bytes written for a request and the image behind it; "5 for an image that 01's refusal 1 meets": one that the first program refuses
 unfoldable pub requestText : Request → List ℕ → List ℕ
 requestText q image = cond (imageRefused (length image)) (numberLine "refused" 5) (answerLines (dayAnswer q image))
 
--- what the image's bytes are afterwards
-unfoldable pub imageLeft : List ℕ → List ℕ
-imageLeft image = cond (imageRefused (length image)) image (imageRun image .memory .bytes)
-
 -- how many bytes are written, the buffer that they stand in, and the image
 unfoldable pub requested : Request → List ℕ → List ℕ → ℕ × List ℕ × List ℕ
-requested q image out = (length (requestText q image), requestText q image ++ drop (length (requestText q image)) out, imageLeft image)
+requested q image out = (length (requestText q image), requestText q image ++ drop (length (requestText q image)) out, imageRun image .memory .bytes)
 
 -- "4 for a bad first line"; the image begins behind a good one
 unfoldable pub inputText : List ℕ → FirstLine → List ℕ
@@ -48,7 +39,7 @@ inputText input (asks q) = requestText q (drop (q .image) input)
 
 unfoldable pub inputLeft : List ℕ → FirstLine → List ℕ
 inputLeft input badLine = input
-inputLeft input (asks q) = take (q .image) input ++ imageLeft (drop (q .image) input)
+inputLeft input (asks q) = take (q .image) input ++ imageRun (drop (q .image) input) .memory
 
 -- THE BYTES THAT ARE WRITTEN for the bytes that were read
 unfoldable pub writtenFor : List ℕ → List ℕ

@@ -6,7 +6,6 @@ use crate::line::FirstLine;
 use crate::line::Request;
 use crate::line::read_line;
 use crate::lines::put_day;
-use machine::Codes;
 use peaks::Answer;
 use report_lines::put_number;
 ghost use mathlib.Core.Path.{_≡_};
@@ -18,10 +17,9 @@ ghost use lib.ListN.{length};
 ghost use Rattle.machine.specs.Memory.{lent};
 ghost use Rattle.peaks.specs.Division.{meanIsNumber};
 ghost use Rattle.report_lines.specs.Lines.{numberLine};
-ghost use Rattle.report.specs.Report.{imageRun};
 ghost use Rattle.text.specs.Put.{written};
 ghost use Rattle.dayreport.specs.Lines.{answerLines};
-ghost use Rattle.dayreport.specs.Program.{answerNumbered, imageRefused, requested, answeredInput};
+ghost use Rattle.dayreport.specs.Program.{answerNumbered, requested, answeredInput};
 
 // No answer is longer than 144 bytes, so that it always fits.
 fn write_refusal(number: u64, out: &mut [u8; 144]) -> usize
@@ -40,33 +38,15 @@ fn write_answer(answer: Answer, out: &mut [u8; 144]) -> usize
     }
 }
 
-// "replays it as the first program does": registers 0, codes ZF=1, start 0, budget 4,000 cycles.
-fn replay(image: &mut [u8])
-    ensures { λ _. ⌜ lent (now (image .exit)) ≡ imageRun (now (image .entry)) .memory ⌝ }
-{
-    let codes = Codes {
-        zf: true,
-        sf: false,
-        of: false,
-    };
-    let fresh = pipe::start(pipe::as_in_01(), [0u64; 15], codes, 0);
-    pipe::run_unlogged(fresh, image, 4000);
-}
-
-fn image_refused(size: usize) -> bool
-    ensures { λ r. ⌜ r ≡ imageRefused size ⌝ }
-{
-    (size == 0) | (4096 < size)
-}
-
 // The image, which stands behind the first line, and the day that is asked for.
 fn report_request(request: Request, image: &mut [u8], out: &mut [u8; 144]) -> usize
     ensures { λ r. ⌜ _≡_ {A = ℕ × List ℕ × List ℕ} (r, now (out .exit), now (image .exit)) (requested request (now (image .entry)) (now (out .entry))) ⌝ }
 {
-    if image_refused(image.len()) {
+    if report::image_refused(image.len()) {
         return write_refusal(5, out);
     }
-    replay(image);
+    // "replays it as the first program does"
+    report::run_image(image);
     write_answer(
         peaks::judge(image, request.table, request.length, request.filed),
         out,

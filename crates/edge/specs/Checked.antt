@@ -14,10 +14,10 @@ use Rattle.replay_ends.specs.Allowed.{allowed}
 use Rattle.edge.specs.Edge.{edgeRun}
 
 -- what the edge lets in, the run inside never refuses
-pub runs-inside : (memory registers result : List ℕ) (start codes budget : ℕ) → edgeRefusal (length memory) (length registers) (length result) codes budget ≡ 0
+pub runs-inside : (memory registers result : List ℕ) (start codes budget : ℕ) → edgeRefusal (length memory) (length registers) (length result) start codes budget ≡ 0
     → edgeRun memory registers start codes budget .number ≡ 0
 unfolding edgeRun pipeRunUnlogged pipeBy pipeDone pipeRefusal lowest logRefused
     recordRefused settingsRefused countsRefused refusedInD refusedInE refusedInM refusedInW refusedKept pipeStart noKinds
 runs-inside memory registers result start codes budget h =
-    let a = allowed (length memory) (length registers) (length result) codes budget _ refl h in
+    let a = allowed (length memory) (length registers) (length result) start codes budget _ refl h in
     rw (a .size, a .budgeted)

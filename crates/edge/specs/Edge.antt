@@ -31,5 +31,5 @@ edgeRun memory registers start codes budget = pipeRunUnlogged (pipeStart asIn01 
 
 unfoldable pub replayed : List ℕ → List ℕ → List ℕ → (start codes budget : ℕ) → Edge
 replayed memory registers result start codes budget =
-    let n = edgeRefusal (length memory) (length registers) (length result) codes budget in
+    let n = edgeRefusal (length memory) (length registers) (length result) start codes budget in
     cond (eqb n 0) (edgeDone (edgeRun memory registers start codes budget) registers result) (edge n memory registers result)

@@ -17,16 +17,25 @@ pub extern "C" fn y86_replay(
     ensures { λ r. ⌜ edge r (now (memory .exit)) (now (registers .exit)) (now (result .exit))
         ≡ replayed (now (memory .entry)) (now (registers .entry)) (now (result .entry)) start codes budget ⌝ }
 {
-    let number = replay_ends::refusal(memory.len(), registers.len(), result.len(), codes, budget);
+    let number = replay_ends::refusal(
+        memory.len(),
+        registers.len(),
+        result.len(),
+        start,
+        codes,
+        budget,
+    );
     if number != 0 {
         return number;
     }
-    let fresh = pipe::start(
+    let started = pipe::start(
         pipe::as_in_01(),
+        memory.len(),
         block::read_registers(registers),
         block::codes_from(codes),
         start,
     );
+    let fresh = started.pipeline;
     let answer = pipe::run_unlogged(fresh, memory, budget);
     let end = answer.pipeline;
     replay_ends::write_registers(registers, end);

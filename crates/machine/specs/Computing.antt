@@ -20,6 +20,6 @@ unfolding
     Stages.accessAddress Stages.stored Stages.storedWord Stages.accessStatus Stages.access Stages.newMemory Stages.resultTarget Stages.loadedTarget
     Stages.newRegisters Stages.turned Stages.straight Stages.nextAddress
     Plain.plainStart Plain.isStopped Plain.fetched Plain.decoded Plain.executed Plain.accessed Plain.performed Plain.stoppedBy Plain.step Plain.steps
-    Runs.laid Runs.sizeRefused Runs.budgetRefused Runs.logRefused Runs.lowest Runs.fetchAnswer Runs.plainRefusal Runs.plainDone Runs.plainBy
-    Runs.plainRun Runs.plainStep
+    Runs.laid Runs.sizeRefused Runs.budgetRefused Runs.logRefused Runs.startRefused Runs.lowest Runs.fetchAnswer Runs.startRefusal Runs.plainStarted
+    Runs.plainRefusal Runs.plainDone Runs.plainBy Runs.plainRun Runs.plainStep
 computing = tt

@@ -1,13 +1,13 @@
--- Budgets, logs, answers: the tests that refusals share, and what fetching and the plain run give back, refusals included.
+-- Budgets, logs, answers: the tests that refusals share, and what fetching, a fresh start and the plain run give back, refusals included.
 use Prim.Native.Nat.{ℕ, _+_}
 use mathlib.Core.Bool.{Bool, false, cond, _||_}
 use mathlib.Core.List.{List, [], _∷_}
-use lib.Dec.{ltb, eqb}
+use lib.Dec.{ltb, leb, eqb}
 use lib.ListN.{length}
-use Rattle.machine.specs.Types.{Machine, FetchAnswer, adr}
-use Rattle.machine.specs.Memory.{Memory, size}
+use Rattle.machine.specs.Types.{Machine, Codes, FetchAnswer, adr}
+use Rattle.machine.specs.Memory.{Memory, size, Registers}
 use Rattle.machine.specs.Fetch.{fetch, stopping}
-use Rattle.machine.specs.Plain.{Plain, plainOf, steps}
+use Rattle.machine.specs.Plain.{Plain, plainOf, plainStart, steps}
 
 -- "The caller lends a log of 64-bit words"; "place k-1 takes the k-th retirement of the call, the rest stays."
 unfoldable pub laid : List ℕ → List ℕ → List ℕ
@@ -16,9 +16,9 @@ laid (e ∷ es) [] = []
 laid (e ∷ es) (x ∷ log) = e ∷ laid es log
 
 -- THE TESTS OF THE TABLE OF REFUSALS
--- 1: "N is 0 or above 4,096"
+-- 1: N is 0, or above the limit of #109: "Memory may be up to 65,536 bytes. Refusal 1 moves to that limit"
 unfoldable pub sizeRefused : ℕ → Bool
-sizeRefused n = eqb n 0 || ltb 4096 n
+sizeRefused n = eqb n 0 || ltb 65536 n
 
 -- 3: "budget 0, or count plus budget over the limit", without wrapping
 unfoldable pub budgetRefused : (limit count budget : ℕ) → Bool
@@ -28,6 +28,10 @@ budgetRefused limit count budget = eqb budget 0 || ltb limit (count + budget)
 unfoldable pub logRefused : List ℕ → ℕ → Bool
 logRefused [] budget = false
 logRefused (n ∷ ns) budget = ltb n budget || logRefused ns budget
+
+-- 6, of #109: "a fresh start address not below N becomes refusal 6"
+unfoldable pub startRefused : (size address : ℕ) → Bool
+startRefused size a = leb size a
 
 -- "Lowest number wins." "Otherwise answer 0." The first that applies, in lists that ascend
 unfoldable pub lowest : List (ℕ × Bool) → ℕ
@@ -39,6 +43,13 @@ unfoldable pub fetchAnswer : Memory → ℕ → FetchAnswer
 fetchAnswer m a =
     let n = lowest ((1, sizeRefused (size m)) ∷ []) in
     record { number = n; instruction = cond (eqb n 0) (fetch m a) (stopping a adr) }
+
+-- A FRESH START: 6 is "checked last". Refused, it gives back the record that was asked for, as it gives it back otherwise
+unfoldable pub startRefusal : (size address : ℕ) → ℕ
+startRefusal size a = lowest ((1, sizeRefused size) ∷ (6, startRefused size a) ∷ [])
+
+unfoldable pub plainStarted : ℕ → Registers → Codes → ℕ → ℕ × Machine
+plainStarted size r c a = (startRefusal size a, plainStart r c a)
 
 -- THE PLAIN RUN
 abbrev pub plainLimit : ℕ

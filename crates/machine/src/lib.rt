@@ -25,7 +25,7 @@ pub const RSP: u8 = 4;
 pub const NONE: u8 = 15;
 
 // The most that is not refused: bytes of memory, instructions of the plain engine.
-pub const MEMORY_LIMIT: usize = 4096;
+pub const MEMORY_LIMIT: usize = 65536;
 
 pub const PLAIN_LIMIT: u64 = 65536;
 

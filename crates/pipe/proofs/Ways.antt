@@ -26,8 +26,8 @@ use Rattle.machine.specs.Table.{rowOf, is}
 use Rattle.clocked.specs.Prediction.{coreOf}
 use Rattle.clocked.specs.Pipeline.{wrong}
 use Rattle.clocked.specs.PipeRuns.{instructionRefused, refusedInD, refusedInE, refusedInM, refusedInW, refusedKept}
-use Rattle.machine.specs.Runs.{sizeRefused, budgetRefused, lowest}
-use Rattle.clocked.specs.PipeRuns.{countsRefused, settingsRefused, recordRefused, pipeLimit}
+use Rattle.machine.specs.Runs.{sizeRefused, startRefused, budgetRefused, lowest}
+use Rattle.clocked.specs.PipeRuns.{countsRefused, settingsRefused, recordRefused, pipeStartRefusal, pipeLimit}
 use Rattle.stage.specs.declared.forwarding.Targets.{Targets}
 use Rattle.stage.specs.Forwarding.{targetsM, targetsW}
 use Rattle.flow.specs.Moving.{aheadOf}
@@ -117,6 +117,26 @@ module _ (short : Bool) (p : Pipeline) (size budget : ℕ) (s b r : Bool) (es : 
     pub no-refusal : b ≡ false → short ≡ false → r ≡ recordRefused p → r ≡ false → 0 ≡ refusalBy short p size budget
     unfolding refusalBy lowest
     no-refusal h k e l = cc
+
+-- a fresh start's
+module _ (s : Settings) (size a : ℕ) (x : Bool) (ex : x ≡ sizeRefused size) where
+  pub no-size : x ≡ true → 1 ≡ pipeStartRefusal s size a
+  unfolding pipeStartRefusal lowest
+  no-size h = cc
+
+  module _ (fx : x ≡ false) (y : Bool) (ey : y ≡ settingsRefused s) where
+    pub no-rule : y ≡ true → 5 ≡ pipeStartRefusal s size a
+    unfolding pipeStartRefusal lowest
+    no-rule h = cc
+
+    module _ (fy : y ≡ false) (z : Bool) (ez : z ≡ startRefused size a) where
+      pub not-below : z ≡ true → 6 ≡ pipeStartRefusal s size a
+      unfolding pipeStartRefusal lowest
+      not-below h = cc
+
+      pub starts : z ≡ false → 0 ≡ pipeStartRefusal s size a
+      unfolding pipeStartRefusal lowest
+      starts h = cc
 
 -- LOGS
 pub has-retired : (b : Bool) (k x : ℕ) (l l′ : List ℕ) → b ≡ true → l′ ≡ set l k x → l′ ≡ noted b k x l

@@ -3,6 +3,7 @@ mod refusing;
 mod running;
 
 use crate::refusing::refusal;
+use crate::refusing::start_refusal;
 use crate::running::looped;
 use clocked::Kept;
 use clocked::Kinds;
@@ -18,9 +19,10 @@ use machine::Status;
 ghost use mathlib.Core.Path.{_≡_};
 ghost use mathlib.Core.List.{[]};
 ghost use Rattle.machine.specs.Memory.{lent};
+ghost use Prim.Native.Nat.{ℕ};
+ghost use Rattle.clocked.specs.declared.Pipeline.{Pipeline as PipelineOf};
 ghost use Rattle.clocked.specs.Prediction.{asIn01};
-ghost use Rattle.clocked.specs.Pipeline.{pipeStart};
-ghost use Rattle.clocked.specs.PipeRuns.{pipeAnswer, pipeRun, pipeRunUnlogged, pipeClock};
+ghost use Rattle.clocked.specs.PipeRuns.{pipeStarted, pipeAnswer, pipeRun, pipeRunUnlogged, pipeClock};
 ghost use Rattle.pipe.specs.Parts.{answerBy};
 
 // Document 01's number, 0 or that of a refusal, and the record.
@@ -36,15 +38,17 @@ pub fn as_in_01() -> Settings
     Settings { rule: 0 }
 }
 
+// A fresh start in memory of that size.
 pub fn start(
     settings: Settings,
+    size: usize,
     registers: [u64; REGISTERS],
     codes: Codes,
     address: u64,
-) -> Pipeline
-    ensures { λ r. ⌜ r ≡ pipeStart settings registers codes address ⌝ }
+) -> Answer
+    ensures { λ r. ⌜ _≡_ {A = ℕ × PipelineOf} (r .number, r .pipeline) (pipeStarted settings size registers codes address) ⌝ }
 {
-    Pipeline {
+    let fresh = Pipeline {
         settings,
         predicted: address,
         d: StageD::BubbleD,
@@ -63,6 +67,10 @@ pub fn start(
             returned: 0,
         },
         kept: Kept::NoneKept,
+    };
+    Answer {
+        number: start_refusal(settings, size, address),
+        pipeline: fresh,
     }
 }
 

@@ -1,6 +1,7 @@
 // The refusals, of which the lowest number wins.
 use answers::budget_refused;
 use answers::size_refused;
+use answers::start_refused;
 use clocked::Kept;
 use clocked::PIPE_LIMIT;
 use clocked::Pipeline;
@@ -17,7 +18,7 @@ use machine::NONE;
 use machine::OPERATION;
 ghost use mathlib.Core.Path.{_≡_};
 ghost use Rattle.clocked.specs.PipeRuns.{instructionRefused, refusedInD, refusedInE, refusedInM, refusedInW, refusedKept};
-ghost use Rattle.clocked.specs.PipeRuns.{countsRefused, settingsRefused, recordRefused};
+ghost use Rattle.clocked.specs.PipeRuns.{countsRefused, settingsRefused, recordRefused, pipeStartRefusal};
 ghost use Rattle.pipe.specs.Parts.{refusalBy};
 
 // A register over 15, a code without functions, a move, jump or OPq function that the table has not.
@@ -119,6 +120,22 @@ fn record_refused(pipeline: Pipeline) -> bool
             | (refused_in_e(e)
                 | (refused_in_m(m)
                     | (refused_in_w(w) | (refused_kept(kept) | counts_refused(pipeline))))))
+}
+
+// The lowest refusal of a fresh start, or 0.
+pub fn start_refusal(settings: Settings, size: usize, address: u64) -> u64
+    ensures { λ r. ⌜ r ≡ pipeStartRefusal settings size address ⌝ }
+{
+    if size_refused(size) {
+        return 1;
+    }
+    if settings_refused(settings) {
+        return 5;
+    }
+    if start_refused(size, address) {
+        return 6;
+    }
+    0
 }
 
 // 0, or the number of the refusal; short says that a lent log is shorter than the budget.

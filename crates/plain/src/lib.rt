@@ -23,12 +23,13 @@ use machine::Status;
 ghost use mathlib.Core.Path.{_≡_};
 ghost use mathlib.Core.Bool.{false};
 ghost use mathlib.Core.List.{[], _∷_};
-ghost use Prim.Native.Nat.{_+_, _≤_, _<_};
+ghost use Prim.Native.Nat.{ℕ, _+_, _≤_, _<_};
+ghost use Rattle.machine.specs.declared.Machine.{Machine as MachineOf};
 ghost use Rattle.machine.specs.Types.{isBad};
 ghost use Rattle.machine.specs.Memory.{lent, value as valueOf};
 ghost use Rattle.machine.specs.Stages.{decode};
-ghost use Rattle.machine.specs.Plain.{plainStart, plainOf, step as stepOf};
-ghost use Rattle.machine.specs.Runs.{lowest, sizeRefused, budgetRefused, plainLimit, plainAnswer, plainRun, plainStep};
+ghost use Rattle.machine.specs.Plain.{plainOf, step as stepOf};
+ghost use Rattle.machine.specs.Runs.{lowest, sizeRefused, budgetRefused, plainStarted, plainLimit, plainAnswer, plainRun, plainStep};
 ghost use Rattle.plain.specs.Records.{withRegister, afterPerformed, afterStop, RunsTo};
 
 // What an entry answers: document 01's number, and the record.
@@ -37,17 +38,21 @@ pub struct Answer {
     pub machine: Machine,
 }
 
-// A fresh start.
-pub fn start(registers: [u64; REGISTERS], codes: Codes, address: u64) -> Machine
-    ensures { λ r. ⌜ r ≡ plainStart registers codes address ⌝ }
+// A fresh start in memory of that size.
+pub fn start(size: usize, registers: [u64; REGISTERS], codes: Codes, address: u64) -> Answer
+    ensures { λ r. ⌜ _≡_ {A = ℕ × MachineOf} (r .number, r .machine) (plainStarted size registers codes address) ⌝ }
 {
-    Machine {
+    let fresh = Machine {
         registers,
         codes,
         address,
         status: Status::Aok,
         last: address,
         count: 0,
+    };
+    Answer {
+        number: answers::start_refusal(size, address),
+        machine: fresh,
     }
 }
 

@@ -4,7 +4,6 @@ use clocked::Pipeline;
 use clocked::Settings;
 use machine::Codes;
 use machine::FetchAnswer;
-use machine::Machine;
 use machine::REGISTERS;
 ghost use mathlib.Core.List.{[]};
 ghost use Rattle.machine.specs.Memory.{lent};
@@ -17,7 +16,7 @@ ghost use Rattle.listing_edge.specs.Listings.{listingEdge};
 ghost use Rattle.together.specs.Both.{startOf, bothAnswer};
 ghost use Rattle.cases.specs.Promises.{Fits, fetching, plain-start, plain-step, plain-run};
 ghost use Rattle.cases.specs.Listings.{listing-read, edge-listing};
-ghost use Rattle.cases.specs.Program.{report-image, write-report};
+ghost use Rattle.cases.specs.Program.{report-image, image-run, write-report};
 ghost use Rattle.cases.specs.Promises.{pipe-start, pipe-clock, pipe-run, pipe-run-unlogged, host-edge, run-both};
 ghost use Rattle.cases.specs.Promises.{day-judged, day-exported, input-reported};
 
@@ -27,10 +26,15 @@ fn fetch(memory: &[u8], address: u64) -> FetchAnswer
     fetching::fetch(memory, address)
 }
 
-fn plain_start(registers: [u64; REGISTERS], codes: Codes, address: u64) -> Machine
-    ensures { λ r. ⌜ Fits plain-start (registers, codes, address) r ⌝ }
+fn plain_start(
+    size: usize,
+    registers: [u64; REGISTERS],
+    codes: Codes,
+    address: u64,
+) -> plain::Answer
+    ensures { λ r. ⌜ Fits plain-start (size, registers, codes, address) (r .number, r .machine) ⌝ }
 {
-    plain::start(registers, codes, address)
+    plain::start(size, registers, codes, address)
 }
 
 fn plain_step(machine: Machine, memory: &mut [u8]) -> plain::Answer
@@ -48,13 +52,14 @@ fn plain_run(machine: Machine, memory: &mut [u8], budget: u64, log: &mut [u64]) 
 
 fn pipe_start(
     settings: Settings,
+    size: usize,
     registers: [u64; REGISTERS],
     codes: Codes,
     address: u64,
-) -> Pipeline
-    ensures { λ r. ⌜ Fits pipe-start (settings, registers, codes, address) r ⌝ }
+) -> pipe::Answer
+    ensures { λ r. ⌜ Fits pipe-start (settings, size, registers, codes, address) (r .number, r .pipeline) ⌝ }
 {
-    pipe::start(settings, registers, codes, address)
+    pipe::start(settings, size, registers, codes, address)
 }
 
 fn pipe_clock(pipeline: Pipeline, memory: &mut [u8]) -> pipe::Answer
@@ -140,6 +145,12 @@ fn report_image(image: &mut [u8], out: &mut [u8; 652]) -> usize
     ensures { λ r. ⌜ Fits report-image (now (image .entry), now (out .entry)) (r, now (out .exit), now (image .exit)) ⌝ }
 {
     report::report_image(image, out)
+}
+
+fn run_image(image: &mut [u8]) -> pipe::Answer
+    ensures { λ r. ⌜ Fits image-run (now (image .entry)) (pipeAnswer (r .number) (r .pipeline) (now (image .exit)) [] []) ⌝ }
+{
+    report::run_image(image)
 }
 
 fn write_report(number: u64, end: Pipeline, out: &mut [u8; 652]) -> usize

@@ -6,12 +6,13 @@ use mathlib.Core.List.{List, [], _∷_}
 use lib.ListN.{replicate}
 use Rattle.machine.specs.Memory.{Memory}
 use Rattle.machine.specs.Table.{unknownByte}
+use Rattle.clocked.specs.Prediction.{asIn01}
 use Rattle.machine.specs.Plain.{plainOf, plainStart}
 use Rattle.clocked.specs.Premise.{writesByte, hasByte}
-use Rattle.machine.specs.Runs.{PlainAnswer, plainAnswer, plainRefusal as plainRefuses, plainStep}
-use Rattle.clocked.specs.PipeRuns.{pipeRefusal, pipeRunUnlogged, pipeClock}
+use Rattle.machine.specs.Runs.{startRefusal, plainStarted, PlainAnswer, plainAnswer, plainRefusal as plainRefuses, plainStep}
+use Rattle.clocked.specs.PipeRuns.{pipeStarted, pipeRefusal, pipeRunUnlogged, pipeClock}
 use Rattle.records.specs.Names.{Instruction, Machine, Status, aok, hlt, adr, ins}
-use Rattle.records.specs.Given.{Change, rule, image, filled, empty, given, coded, fresh, with, stopped, counts, keeps, D, E, M, W, nop, cmov, operation, jump}
+use Rattle.records.specs.Given.{Change, rule, image, filled, empty, given, coded, fresh, with, stopped, counts, keeps, F, D, E, M, W, nop, cmov, operation, jump}
 use Rattle.records.specs.Given.{popq, iaddq, unknown, fetchedAs, instruction}
 use Rattle.records.specs.Looks.{Row, answers, numbers, ran, performed, refusal, status, last, retired, cycles, predicted, d, address}
 use Rattle.records.specs.Looks.{addressLog, cycleLog, plainRefusal, plainRegister, plainCodes, plainAddress, plainStatus, plainLast}
@@ -97,8 +98,16 @@ rowsOfEntries =
     -- refusals: each of its own, at both ends
     ∷ refuses "R14.1 1: N is 0" 1 [] empty 1 (nines 1) (nines 1)
     ∷ refuses "R14.1 N is 1" 0 [] (filled 1 9) 1 (nines 1) (nines 1)
-    ∷ numbers "R14.1 1: N is above 4,096" (pipeRefusal fresh 4096 1 [] ∷ pipeRefusal fresh 4097 1 [] ∷ []) (0 ∷ 1 ∷ [])
-    ∷ numbers "R14.1 plain: 1: N is above 4,096" (plainRefuses 4096 0 1 [] ∷ plainRefuses 4097 0 1 [] ∷ []) (0 ∷ 1 ∷ [])
+    ∷ numbers "R14.1 1: N is above 65,536" (pipeRefusal fresh 65536 1 [] ∷ pipeRefusal fresh 65537 1 [] ∷ []) (0 ∷ 1 ∷ [])
+    ∷ numbers "R14.1 plain: 1: N is above 65,536" (plainRefuses 65536 0 1 [] ∷ plainRefuses 65537 0 1 [] ∷ []) (0 ∷ 1 ∷ [])
+    -- a fresh start: 1, and 6 checked last
+    ∷ numbers "R14.7 a fresh start at N - 1, N and 2^64 - 1" (startRefusal 4096 4095 ∷ startRefusal 4096 4096 ∷ startRefusal 4096 (2 ^ 64 - 1) ∷ []) (0 ∷ 6 ∷ 6 ∷ [])
+    ∷ numbers "R14.7 the same at the limit" (startRefusal 65536 65535 ∷ startRefusal 65536 65536 ∷ startRefusal 65537 65536 ∷ []) (0 ∷ 6 ∷ 1 ∷ [])
+    ∷ numbers "R14.7 1 before 6" (startRefusal 0 0 ∷ startRefusal 65537 (2 ^ 64 - 1) ∷ []) (1 ∷ 1 ∷ [])
+    ∷ numbers "R14.7 a start's number, and its record all the same"
+    (plainStarted 5 (given []) (coded 4) 5 .0 ∷ plainStarted 5 (given []) (coded 4) 5 .1 .address
+    ∷ pipeStarted asIn01 5 (given []) (coded 4) 5 .0 ∷ pipeStarted asIn01 5 (given []) (coded 4) 5 .1 .predicted ∷ []) (6 ∷ 5 ∷ 6 ∷ 5 ∷ [])
+    ∷ refuses "R14.7 a run that goes on from a record tests its address no more" 0 (F 3 ∷ []) short 1 (nines 1) (nines 1)
     ∷ refuses "R14.1 3: budget 0" 3 [] short 0 [] []
     ∷ refuses "R13.2 3: without wrapping" 3 (counts 0 1 0 0 0 ∷ []) short (2 ^ 64 - 1) [] []
     ∷ refuses "R13.2 3: cycles count, and not the retired" 0 (counts 5 262144 0 0 0 ∷ []) short 1 (nines 1) (nines 1)

@@ -89,8 +89,8 @@ rowsOfFetch =
     ((fetchStatus, 1) ∷ (ra, 15) ∷ (rb, 15) ∷ (constant, 0x08070605040302f1) ∷ (next, 9) ∷ [])
     -- the open entry: refusal 1, and the nop that a fetch outside memory gives
     ∷ answers "R14.6 fetch, 1: N is 0" (fetchAnswer empty 5) ((refusal, 1) ∷ (of address, 5) ∷ (of fetchStatus, 3) ∷ (of code, 1) ∷ (of next, 5) ∷ [])
-    ∷ answers "R14.6 fetch, 1: N is above 4,096" (fetchAnswer (filled 4097 0x10) 5) ((refusal, 1) ∷ (of fetchStatus, 3) ∷ [])
-    ∷ answers "R14.6 fetch, N is 4,096" (fetchAnswer (filled 4096 0x10) 5) ((refusal, 0) ∷ (of address, 5) ∷ (of fetchStatus, 1) ∷ (of next, 6) ∷ [])
+    ∷ answers "R14.6 fetch, 1: N is above 65,536" (fetchAnswer (filled 65537 0x10) 5) ((refusal, 1) ∷ (of fetchStatus, 3) ∷ [])
+    ∷ answers "R14.6 fetch, N is 65,536" (fetchAnswer (filled 65536 0x10) 5) ((refusal, 0) ∷ (of address, 5) ∷ (of fetchStatus, 1) ∷ (of next, 6) ∷ [])
     -- "An instruction fetched with status not AOK travels as a nop with that status; its predicted address is its own."
     ∷ clocked "R4.3 a bad fetch travels as a nop: INS" (F 1 ∷ []) (image 3 3 0x10_64_23) 1
     ((d address, 1) ∷ (d fetchStatus, 4) ∷ (d code, 1) ∷ (d function, 0) ∷ (d ra, 15) ∷ (d rb, 15) ∷ (d constant, 0) ∷ (d next, 1) ∷ (predicted, 1) ∷ [])

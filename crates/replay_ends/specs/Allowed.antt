@@ -15,10 +15,10 @@ pub record Allowed (memory registers result budget : ℕ) : Type 0 where
   pub budgeted : budgetRefused pipeLimit 0 budget ≡ false
   pub room : result ≡ 40
 
-pub allowed : (memory registers result codes budget n : ℕ) → n ≡ edgeRefusal memory registers result codes budget → n ≡ 0
+pub allowed : (memory registers result start codes budget n : ℕ) → n ≡ edgeRefusal memory registers result start codes budget → n ≡ 0
     → Allowed memory registers result budget
 unfolding edgeRefusal lowest
-allowed memory registers result codes budget n h z =
+allowed memory registers result start codes budget n h z =
     let p1 = failed (sizeRefused memory) 0 _ (sym h ∙ z) in
     let p2 = failed (not (eqb registers 120)) 1 _ (p1 .1) in
     let p3 = failed (budgetRefused pipeLimit 0 budget) 2 _ (p2 .1) in

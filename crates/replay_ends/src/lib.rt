@@ -16,8 +16,15 @@ const RESULT_BYTES: usize = 40;
 const MOST_CODES: u64 = 7;
 
 // The lowest refusal that applies, or 0.
-pub fn refusal(memory: usize, registers: usize, result: usize, codes: u64, budget: u64) -> u64
-    ensures { λ r. ⌜ r ≡ edgeRefusal memory registers result codes budget ⌝ }
+pub fn refusal(
+    memory: usize,
+    registers: usize,
+    result: usize,
+    start: u64,
+    codes: u64,
+    budget: u64,
+) -> u64
+    ensures { λ r. ⌜ r ≡ edgeRefusal memory registers result start codes budget ⌝ }
 {
     if answers::size_refused(memory) {
         return 1;
@@ -33,6 +40,9 @@ pub fn refusal(memory: usize, registers: usize, result: usize, codes: u64, budge
     }
     if MOST_CODES < codes {
         return 5;
+    }
+    if answers::start_refused(memory, start) {
+        return 6;
     }
     0
 }

@@ -1,6 +1,6 @@
 -- One law for each way out of a function. Assumes nothing.
 use mathlib.Core.Path.{_≡_, ap, subst, _∙_}
-use mathlib.Core.Bool.{true, false}
+use mathlib.Core.Bool.{Bool, true, false}
 use mathlib.Core.List.{List, [], _++_}
 use Prim.Native.Nat.{ℕ, _≤_}
 use native.Mathlib.Omega.{arith}
@@ -10,13 +10,12 @@ use Rattle.clocked.specs.declared.Settings.{Settings}
 use Rattle.clocked.specs.declared.Pipeline.{Pipeline}
 use Rattle.machine.specs.Memory.{lent}
 use Rattle.clocked.specs.Prediction.{asIn01}
-use Rattle.clocked.specs.Pipeline.{pipeStart}
-use Rattle.clocked.specs.PipeRuns.{PipeAnswer, pipeAnswer, pipeRunUnlogged}
+use Rattle.clocked.specs.PipeRuns.{pipeStarted, PipeAnswer, pipeAnswer, pipeRunUnlogged}
 use Rattle.text.specs.Bytes.{bytes}
 use Rattle.text.specs.Put.{Put, put-both, put-front, written}
 use Rattle.report_lines.specs.Lines.{line, numberLine, statusLine, countLines, kindLines}
 use Rattle.register_lines.specs.Registers.{registerLines}
-use Rattle.report.specs.Report.{endLines, report, imageRun, reported, replayed}
+use Rattle.report.specs.Report.{endLines, report, imageRefused, imageStart, imageRun, reported, replayed}
 
 -- the lines of a run that was not refused
 module _ {a b c d e : List ℕ} {at i j k r : ℕ} where
@@ -39,16 +38,31 @@ module _ {a b c : List ℕ} {i r : ℕ} (n : ℕ) (p : Pipeline) (room : length 
       let q : Put (report n p) 0 a r c = rw (ne-eqb n 0 h) (put-both first y) in
       put-front q (omega (arith, q .place))
 
-pub replays : (image image′ out out′ : List ℕ) (n r : ℕ) (s : Settings) (fresh p : Pipeline)
-    → s ≡ asIn01 → fresh ≡ pipeStart s (replicate 15 0) (record { zf = true; sf = false; of = false }) 0
-    → pipeAnswer n p (lent image′) [] [] ≡ pipeRunUnlogged fresh (lent image) 4000 → _≡_ {A = ℕ × List ℕ} (r, out′) (written (report n p) out)
+-- THE RUN
+module _ (image : List ℕ) (told : ℕ) (s : Settings) (fresh : Pipeline) (x : Bool) (i : s ≡ asIn01)
+    (e : _≡_ {A = ℕ × Pipeline} (told, fresh) (pipeStarted s (length image) (replicate 15 0) (record { zf = true; sf = false; of = false }) 0))
+    (h : x ≡ imageRefused (length image)) where
+  starts : fresh ≡ imageStart
+  unfolding pipeStarted imageStart
+  starts = ap (λ (y : ℕ × Pipeline). y .1) e ∙ ap (λ (y : Settings). pipeStart y (replicate 15 0) (record { zf = true; sf = false; of = false }) 0) i
+
+  pub too-large : x ≡ true → pipeAnswer 1 fresh (lent image) [] [] ≡ imageRun image
+  unfolding imageRun
+  too-large t = rw (starts, ← h, t)
+
+  pub runs : (n : ℕ) (p : Pipeline) (image′ : List ℕ) → x ≡ false → pipeAnswer n p (lent image′) [] [] ≡ pipeRunUnlogged fresh (lent image) 4000
+      → pipeAnswer n p (lent image′) [] [] ≡ imageRun image
+  unfolding imageRun
+  runs n p image′ t f = rw (← h, t) (f ∙ ap (λ (k : Pipeline). pipeRunUnlogged k (lent image) 4000) starts)
+
+pub replays : (image image′ out out′ : List ℕ) (n r : ℕ) (p : Pipeline) → pipeAnswer n p (lent image′) [] [] ≡ imageRun image
+    → _≡_ {A = ℕ × List ℕ} (r, out′) (written (report n p) out)
     → _≡_ {A = ℕ × List ℕ × List ℕ} (r, out′, image′) (replayed image out)
-unfolding imageRun reported replayed
-replays image image′ out out′ n r s fresh p i e f g =
-    let started : fresh ≡ pipeStart asIn01 (replicate 15 0) (record { zf = true; sf = false; of = false }) 0 = cc in
+unfolding reported replayed
+replays image image′ out out′ n r p f g =
     subst
     (λ (o : PipeAnswer).
     let t = report (o .number) (o .pipeline) in
     _≡_ {A = ℕ × List ℕ × List ℕ} (r, out′, image′) (length t, t ++ drop (length t) out, o .memory .bytes))
-    (f ∙ ap (λ (k : Pipeline). pipeRunUnlogged k (lent image) 4000) started)
+    f
     (ap (λ (x : ℕ × List ℕ). (x .0, x .1, image′)) g)

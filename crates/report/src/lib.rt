@@ -1,6 +1,7 @@
 // The report of a run: document 01's lines, made from the answer of the run.
 use clocked::Pipeline;
 use machine::Codes;
+use pipe::Answer;
 use register_lines::put_registers;
 use report_lines::put_counts;
 use report_lines::put_kinds;
@@ -8,10 +9,12 @@ use report_lines::put_number;
 use report_lines::put_status;
 use text::put_text;
 ghost use mathlib.Core.Path.{_≡_};
-ghost use mathlib.Core.List.{List};
+ghost use mathlib.Core.List.{List, []};
 ghost use Prim.Native.Nat.{ℕ, _+_, _^_, _≤_, _<_};
 ghost use Rattle.text.specs.Put.{Put, written};
-ghost use Rattle.report.specs.Report.{endLines, report, replayed};
+ghost use Rattle.machine.specs.Memory.{lent};
+ghost use Rattle.clocked.specs.PipeRuns.{pipeAnswer};
+ghost use Rattle.report.specs.Report.{endLines, report, imageRefused, imageRun, replayed};
 
 // The lines of a run that was not refused, behind the first.
 fn put_end(buffer: &mut [u8], at: usize, end: Pipeline) -> usize
@@ -40,17 +43,38 @@ pub fn write_report(number: u64, end: Pipeline, out: &mut [u8; 652]) -> usize
     }
 }
 
-// Document 01's program from the image read to the bytes written: registers 0, codes ZF=1, start 0, budget 4,000 cycles.
-pub fn report_image(image: &mut [u8], out: &mut [u8; 652]) -> usize
-    ensures { λ r. ⌜ _≡_ {A = ℕ × List ℕ × List ℕ} (r, now (out .exit), now (image .exit)) (replayed (now (image .entry)) (now (out .entry))) ⌝ }
+// The program holds at most 4,096 bytes, whatever the engines take.
+pub fn image_refused(size: usize) -> bool
+    ensures { λ r. ⌜ r ≡ imageRefused size ⌝ }
+{
+    (size == 0) | (4096 < size)
+}
+
+// Registers 0, codes ZF=1, start 0, budget 4,000 cycles.
+pub fn run_image(image: &mut [u8]) -> Answer
+    ensures { λ r. ⌜ pipeAnswer (r .number) (r .pipeline) (lent (now (image .exit))) [] [] ≡ imageRun (now (image .entry)) ⌝ }
 {
     let codes = Codes {
         zf: true,
         sf: false,
         of: false,
     };
-    let fresh = pipe::start(pipe::as_in_01(), [0u64; 15], codes, 0);
-    let answer = pipe::run_unlogged(fresh, image, 4000);
+    let started = pipe::start(pipe::as_in_01(), image.len(), [0u64; 15], codes, 0);
+    let fresh = started.pipeline;
+    if image_refused(image.len()) {
+        return Answer {
+            number: 1,
+            pipeline: fresh,
+        };
+    }
+    pipe::run_unlogged(fresh, image, 4000)
+}
+
+// Document 01's program from the image read to the bytes written.
+pub fn report_image(image: &mut [u8], out: &mut [u8; 652]) -> usize
+    ensures { λ r. ⌜ _≡_ {A = ℕ × List ℕ × List ℕ} (r, now (out .exit), now (image .exit)) (replayed (now (image .entry)) (now (out .entry))) ⌝ }
+{
+    let answer = run_image(image);
     let end = answer.pipeline;
     write_report(answer.number, end, out)
 }

@@ -47,7 +47,7 @@ module _ (memory registers result : List ℕ) (start codes budget : ℕ) where
   abbrev pub answered : Edge
   answered = replayed memory registers result start codes budget
 
-  module _ (h : edgeRefusal (length memory) (length registers) (length result) codes budget ≡ 0) where
+  module _ (h : edgeRefusal (length memory) (length registers) (length result) start codes budget ≡ 0) where
     -- what the edge lets in is run
     ran : answered ≡ edgeDone (pipeDone piped [] []) registers result
     unfolding replayed edgeRun pipedFrom pipeStart

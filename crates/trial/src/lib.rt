@@ -23,11 +23,20 @@ pub extern "C" fn trial_fetch(memory: &mut [u8], address: u64, block: &mut [u64]
     answer.number
 }
 
-// A fresh machine record, with the registers and codes that the block holds.
+// A fresh machine record in memory of that size, with the registers and codes that the block holds; refused, the block stays.
 #[no_mangle]
-pub extern "C" fn trial_plain_start(block: &mut [u64], address: u64) {
-    let fresh = plain::start(registers_in(block, 0), codes_in(block, 0), address);
-    put_machine(block, fresh);
+pub extern "C" fn trial_plain_start(block: &mut [u64], size: u64, address: u64) -> u64 {
+    let answer = plain::start(
+        size as usize,
+        registers_in(block, 0),
+        codes_in(block, 0),
+        address,
+    );
+    if answer.number == 0 {
+        let fresh = answer.machine;
+        put_machine(block, fresh);
+    }
+    answer.number
 }
 
 #[no_mangle]
@@ -51,16 +60,22 @@ pub extern "C" fn trial_plain_run(
     answer.number
 }
 
-// A fresh pipeline record, with the settings, registers and codes that the block holds.
+// A fresh pipeline record in memory of that size, with the settings, registers and codes that the block
+// holds; refused, the block stays.
 #[no_mangle]
-pub extern "C" fn trial_pipe_start(block: &mut [u64], address: u64) {
-    let fresh = pipe::start(
+pub extern "C" fn trial_pipe_start(block: &mut [u64], size: u64, address: u64) -> u64 {
+    let answer = pipe::start(
         settings_in(block),
+        size as usize,
         registers_in(block, STATE),
         codes_in(block, STATE),
         address,
     );
-    put_pipeline(block, fresh);
+    if answer.number == 0 {
+        let fresh = answer.pipeline;
+        put_pipeline(block, fresh);
+    }
+    answer.number
 }
 
 #[no_mangle]

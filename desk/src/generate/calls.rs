@@ -2,9 +2,9 @@
 //! hand, some of them to be refused for any reasons together.
 
 use super::records::Record;
-use super::{Generator, Kind, Random};
+use super::{outside, refused_memory, Generator, Random};
 use crate::second::arithmetic::Codes;
-use crate::second::machine::{Registers, MEMORY_LIMIT};
+use crate::second::machine::{Registers, MEMORY_LIMIT, PROGRAM_LIMIT};
 use crate::second::replay::read_registers;
 
 /// What is lent and given to one call, and, after it, what it left.
@@ -87,7 +87,7 @@ impl Calls {
         let (mut memory, registers, start) = self.program();
         let random = &mut self.random;
         let codes = any_codes(random);
-        let mut record = R::fresh(registers, codes, start);
+        let mut record = R::fresh(registers, codes, start, memory.len());
         let origins = [
             Origin::Fresh,
             Origin::Reached,
@@ -96,6 +96,11 @@ impl Calls {
         ];
         let origin = random.pick(&origins);
         match origin {
+            // In less memory than it was started for, it starts outside.
+            Origin::Fresh if random.chance(1, 8) => {
+                let left = 1 + random.below(start.max(1)) as usize;
+                memory.truncate(left);
+            }
             Origin::Fresh => {}
             Origin::Reached => {
                 for _ in 0..1 + random.below(30) {
@@ -109,12 +114,26 @@ impl Calls {
 
     /// A program's memory, registers and start.
     fn program(&mut self) -> (Vec<u8>, Registers, u64) {
-        let kinds = Kind::ALL.map(|kind| match kind {
-            Kind::Refusals => Kind::RandomBytes,
-            kind => kind,
-        });
-        let case = self.programs.case_of(self.random.pick(&kinds));
+        let kind = self.programs.running_kind();
+        let case = self.programs.case_of(kind);
         (case.image, read_registers(&case.registers), case.start)
+    }
+
+    /// A memory size and an address for a fresh start, inside and outside of
+    /// all limits.
+    pub fn start(&mut self) -> (u64, u64) {
+        let random = &mut self.random;
+        let limit = MEMORY_LIMIT as u64;
+        let any = random.below(limit + 1);
+        let at_ends = random.pick(&[0, 1, 4_096, 4_097, limit - 1, limit]);
+        let over = random.pick(&[limit + 1, limit + 1 + any, 1 << 32, u64::MAX]);
+        let size = random.pick(&[at_ends, at_ends, any, over]);
+        let start = match random.below(4) {
+            0 => size.saturating_sub(1),
+            1 => outside(random, size),
+            _ => random.below(size.max(1)),
+        };
+        (size, start)
     }
 
     /// Memory and an address to fetch from, inside and outside of all limits.
@@ -128,6 +147,7 @@ impl Calls {
         let (few, far) = (random.below(12), random.word());
         let address = match random.below(8) {
             0 => size.wrapping_sub(few),
+            1 if random.chance(1, 2) => PROGRAM_LIMIT as u64 + 2 - few,
             1 => random.pick(&[far, u64::MAX - few, size + few, 1 << 32, 1 << 63]),
             2 => start,
             _ => far % (size + 1),
@@ -139,13 +159,6 @@ impl Calls {
 /// The codes of any number.
 pub(super) fn any_codes(random: &mut Random) -> Codes {
     Codes::from_number(random.below(8)).expect("up to 7")
-}
-
-/// Memory that refusal 1 meets.
-fn refused_memory(random: &mut Random) -> Vec<u8> {
-    let over = MEMORY_LIMIT + 1 + random.below(200) as usize;
-    let size = random.pick(&[0, MEMORY_LIMIT + 1, over]);
-    random.bytes(size)
 }
 
 /// A budget from 1 on of what is left, small ones more often.

@@ -2,7 +2,7 @@
 
 use super::random::Random;
 use crate::second::listing::FAULT_BYTES;
-use crate::second::machine::MEMORY_LIMIT;
+use crate::second::machine::{MEMORY_LIMIT, PROGRAM_LIMIT};
 
 /// What was done to a right listing.
 #[derive(Clone, Copy, Debug, PartialEq, Eq)]
@@ -126,7 +126,9 @@ impl Listings {
 
     fn size(&mut self) -> usize {
         match self.random.below(64) {
-            0 => MEMORY_LIMIT,
+            0 => self
+                .random
+                .pick(&[PROGRAM_LIMIT, PROGRAM_LIMIT + 1, MEMORY_LIMIT]),
             1..=12 => 1 + self.random.below(16) as usize,
             _ => 1 + self.random.below(300) as usize,
         }

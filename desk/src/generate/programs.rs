@@ -1,6 +1,7 @@
 //! The programs of the generated cases, kind by kind.
 
 use super::Random;
+use crate::second::machine::{MEMORY_LIMIT, PROGRAM_LIMIT};
 use crate::second::table::{
     row_of, RegisterByte, CALL, CMOV, HALT, IRMOVQ, JXX, MRMOVQ, NOP, OPQ, POPQ, PUSHQ, RET, RMMOVQ,
 };
@@ -114,7 +115,9 @@ pub fn random_bytes(random: &mut Random, size: usize) -> Program {
             _ => {}
         }
     }
-    let start = random.below(size as u64 + 2);
+    let last = size as u64 - 1;
+    let anywhere = random.below(size as u64);
+    let start = random.pick(&[anywhere, anywhere, anywhere, last]);
     Program {
         image,
         registers: registers(random, size),
@@ -280,26 +283,26 @@ pub fn ends(random: &mut Random, size: usize) -> Program {
     let back = 1 + random.below(40).min(end - 1);
     let origin = random.pick(&[0, end - back, end - back]);
     let mut code = Code::at(origin);
+    let mut earlier = RSP;
     for _ in 0..1 + random.below(6) {
         let number = random.pick(&[IRMOVQ, RMMOVQ, MRMOVQ, PUSHQ, POPQ, CALL, RET, JXX, OPQ]);
         let function = random.below(u64::from(row_of(number).functions)) as u8;
-        let named = (register(random), register(random));
-        code.write((number, function), named, near_end(random, size));
+        // What the one before it may have loaded is often used.
+        let rb = register(random);
+        let rb = random.pick(&[rb, earlier]);
+        let ra = register(random);
+        code.write((number, function), (ra, rb), near_end(random, size));
+        earlier = ra;
     }
     code.lay(&mut image);
-    let near = near_end(random, size);
+    let near = near_end(random, size).min(end - 1);
     let start = random.pick(&[origin, origin, origin, near]);
     let mut registers = [0; REGISTER_COUNT];
     for register in &mut registers {
         *register = near_end(random, size);
     }
     if random.chance(1, 2) {
-        // Words that lead to the ends when ret takes them.
-        let word = near_end(random, size);
-        let at = size.saturating_sub(8);
-        for (place, byte) in image[at..].iter_mut().zip(word.to_le_bytes()) {
-            *place = byte;
-        }
+        lay_way_to_an_end(random, &mut image);
     }
     Program {
         image,
@@ -308,10 +311,64 @@ pub fn ends(random: &mut Random, size: usize) -> Program {
     }
 }
 
+/// Puts a word at the end of memory that leads to an end when a ret takes it.
+fn lay_way_to_an_end(random: &mut Random, image: &mut [u8]) {
+    let word = near_end(random, image.len());
+    let at = image.len().saturating_sub(8);
+    for (place, byte) in image[at..].iter_mut().zip(word.to_le_bytes()) {
+        *place = byte;
+    }
+}
+
 /// A number near one of the ends that matter.
 fn near_end(random: &mut Random, size: usize) -> u64 {
-    let middle = random.pick(&[0, size as u64, size as u64, 1 << 63, 0]);
+    let limits = random.pick(&[PROGRAM_LIMIT, MEMORY_LIMIT]) as u64;
+    let middle = random.pick(&[0, 0, size as u64, size as u64, 1 << 63, limits]);
     middle.wrapping_add(random.below(34)).wrapping_sub(17)
+}
+
+/// Code, stack and data around 4,096 and at the end of an image of 4,096 bytes
+/// or more.
+pub fn large(random: &mut Random, size: usize) -> Program {
+    let mut image = background(random, size);
+    let around = |random: &mut Random, before: u64, behind: u64| {
+        let middle = random.pick(&[PROGRAM_LIMIT, size]) as u64;
+        middle + random.below(behind) - before
+    };
+    let origin = around(random, 60, 58).min(size as u64 - 1);
+    let mut code = Code::at(origin);
+    code.irmovq(around(random, 12, 30), RSP);
+    for _ in 0..1 + random.below(8) {
+        let (named, data) = (register(random), around(random, 12, 16));
+        match random.below(8) {
+            0..=2 => code.write((RMMOVQ, 0), (named, 5), data),
+            3 => {
+                code.write((MRMOVQ, 0), (named, 5), data);
+                code.opq(random.below(4) as u8, named, register(random));
+            }
+            4 => code.pushq(named),
+            5 => code.popq(named),
+            6 => code.opq(random.below(4) as u8, named, register(random)),
+            _ => called_piece(random, &mut code),
+        }
+    }
+    code.jump(random.below(7) as u8, around(random, 20, 24));
+    code.lay(&mut image);
+    let mut registers = registers(random, size);
+    registers[5] = 0;
+    Program {
+        image,
+        registers,
+        start: origin,
+    }
+}
+
+/// A call of the next instruction, or a ret.
+fn called_piece(random: &mut Random, code: &mut Code) {
+    match random.chance(1, 2) {
+        true => code.call(code.here() + 9),
+        false => code.plain(RET),
+    }
 }
 
 /// Short pieces, each with a charge, and at last one of the ways to stop.

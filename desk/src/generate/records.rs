@@ -16,7 +16,8 @@ pub trait Record: Clone + Debug + PartialEq {
     /// How many logs a run takes.
     const LOGS: usize;
 
-    fn fresh(registers: Registers, codes: Codes, start: u64) -> Self;
+    /// A fresh start in a memory of this size, which the start is inside of.
+    fn fresh(registers: Registers, codes: Codes, start: u64, size: usize) -> Self;
 
     /// One step or clock, by the letter.
     fn advance(&mut self, memory: &mut [u8]);
@@ -36,14 +37,17 @@ pub trait Record: Clone + Debug + PartialEq {
     fn performed(&self) -> u64;
 
     fn status(&self) -> Status;
+
+    /// The program address, or the predicted one.
+    fn next_address(&self) -> u64;
 }
 
 impl Record for Machine {
     const LIMIT: u64 = PLAIN_LIMIT;
     const LOGS: usize = 1;
 
-    fn fresh(registers: Registers, codes: Codes, start: u64) -> Machine {
-        Machine::fresh(registers, codes, start)
+    fn fresh(registers: Registers, codes: Codes, start: u64, size: usize) -> Machine {
+        Machine::fresh(size as u64, registers, codes, start).expect("a start")
     }
 
     fn advance(&mut self, memory: &mut [u8]) {
@@ -76,6 +80,10 @@ impl Record for Machine {
         self.count
     }
 
+    fn next_address(&self) -> u64 {
+        self.address
+    }
+
     fn status(&self) -> Status {
         self.status
     }
@@ -85,8 +93,8 @@ impl Record for Pipeline {
     const LIMIT: u64 = CYCLE_LIMIT;
     const LOGS: usize = 2;
 
-    fn fresh(registers: Registers, codes: Codes, start: u64) -> Pipeline {
-        Pipeline::fresh(registers, codes, start)
+    fn fresh(registers: Registers, codes: Codes, start: u64, size: usize) -> Pipeline {
+        Pipeline::fresh(size as u64, registers, codes, start).expect("a start")
     }
 
     fn advance(&mut self, memory: &mut [u8]) {
@@ -108,7 +116,7 @@ impl Record for Pipeline {
                 mispredict: count(random, cycles),
                 returns: count(random, cycles),
             },
-            ..Pipeline::fresh(Registers::default(), Codes::default(), 0)
+            ..Record::fresh(Registers::default(), Codes::default(), 0, size)
         };
         for place in 0..5 {
             if random.chance(4, 5) {
@@ -147,6 +155,10 @@ impl Record for Pipeline {
 
     fn performed(&self) -> u64 {
         self.retired
+    }
+
+    fn next_address(&self) -> u64 {
+        self.predicted
     }
 
     fn status(&self) -> Status {

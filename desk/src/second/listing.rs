@@ -78,7 +78,7 @@ fn digits(field: Option<&[u8]>) -> Result<Vec<u8>, Kind> {
 /// The exported function: memory becomes the image and the answer is 0; or a
 /// refusal by number. 9 is a faulty line, which the block takes.
 pub fn read_listing(text: &[u8], memory: &mut [u8], fault: &mut [u8]) -> u64 {
-    if let Err(refusal) = check_memory(memory) {
+    if let Err(refusal) = check_memory(memory.len() as u64) {
         return refusal.number();
     }
     if fault.len() != FAULT_BYTES {

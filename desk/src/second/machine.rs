@@ -13,8 +13,10 @@ pub const REGISTER_NAMES: [&str; REGISTER_COUNT] = [
     "r14",
 ];
 
-/// The largest memory, in bytes.
-pub const MEMORY_LIMIT: usize = 4_096;
+/// The largest memory, in bytes (#109).
+pub const MEMORY_LIMIT: usize = 65_536;
+/// The most bytes that the program y86run holds.
+pub const PROGRAM_LIMIT: usize = 4_096;
 /// The most instructions a plain machine performs over all its runs.
 pub const PLAIN_LIMIT: u64 = 65_536;
 /// The most cycles a pipelined machine takes over all its runs.
@@ -71,7 +73,7 @@ impl Status {
 #[derive(Clone, Copy, Debug, PartialEq, Eq, PartialOrd, Ord)]
 #[repr(u8)]
 pub enum Refusal {
-    /// The memory has no byte, or more than 4,096.
+    /// The memory has no byte, or more than 65,536.
     Memory = 1,
     /// The register block is not 120 bytes.
     Registers = 2,
@@ -81,6 +83,8 @@ pub enum Refusal {
     Buffer = 4,
     /// The record, or the codes given at the host edge, say what cannot be.
     Record = 5,
+    /// A fresh start's address is not below N (#109).
+    Start = 6,
 }
 
 impl Refusal {
@@ -91,9 +95,19 @@ impl Refusal {
 }
 
 /// Refusal 1: the memory's size.
-pub fn check_memory(memory: &[u8]) -> Result<(), Refusal> {
-    if memory.is_empty() || memory.len() > MEMORY_LIMIT {
+pub fn check_memory(size: u64) -> Result<(), Refusal> {
+    if size == 0 || size > MEMORY_LIMIT as u64 {
         return Err(Refusal::Memory);
+    }
+    Ok(())
+}
+
+/// Refusals 1 and 6: a fresh start in a memory of this size. The address is
+/// looked at last, and only here: a run that goes on does not ask again.
+pub fn check_start(size: u64, start: u64) -> Result<(), Refusal> {
+    check_memory(size)?;
+    if start >= size {
+        return Err(Refusal::Start);
     }
     Ok(())
 }

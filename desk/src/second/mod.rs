@@ -1,4 +1,5 @@
-//! The independent second program: document 01's rules in plain Rust.
+//! The independent second program: the rules of documents 01 and 02 in plain
+//! Rust.
 //!
 //! The two engines share what an instruction looks like (table, fetch, words,
 //! arithmetic, conditions) and nothing of how it is carried out, so that each

@@ -3,7 +3,7 @@
 use super::arithmetic::Codes;
 use super::flow::Flow;
 use super::machine::{
-    check_budget, check_log, check_memory, Refusal, Registers, Status, CYCLE_LIMIT,
+    check_budget, check_log, check_memory, check_start, Refusal, Registers, Status, CYCLE_LIMIT,
 };
 use super::stages::{Accessing, Decoding, Executing, Instruction, Writing};
 
@@ -44,9 +44,16 @@ pub struct Logs<'a> {
 }
 
 impl Pipeline {
-    /// A fresh start: F holds the start address and the rest are bubbles.
-    pub fn fresh(registers: Registers, codes: Codes, start: u64) -> Pipeline {
-        Pipeline {
+    /// A fresh start in a memory of this size: F holds the start address and
+    /// the rest are bubbles.
+    pub fn fresh(
+        size: u64,
+        registers: Registers,
+        codes: Codes,
+        start: u64,
+    ) -> Result<Pipeline, Refusal> {
+        check_start(size, start)?;
+        Ok(Pipeline {
             predicted: start,
             d: None,
             e: None,
@@ -60,7 +67,7 @@ impl Pipeline {
             cycles: 0,
             kinds: Kinds::default(),
             kept: None,
-        }
+        })
     }
 
     /// One clock: a run of 1 without logs.
@@ -76,7 +83,7 @@ impl Pipeline {
         budget: u64,
         logs: Option<Logs>,
     ) -> Result<(), Refusal> {
-        check_memory(memory)?;
+        check_memory(memory.len() as u64)?;
         check_budget(self.cycles, budget, CYCLE_LIMIT)?;
         if let Some(logs) = &logs {
             check_log(logs.addresses, budget)?;

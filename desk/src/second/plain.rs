@@ -3,7 +3,8 @@
 use super::arithmetic::{operate, Codes};
 use super::fetch::{fetch, Parts};
 use super::machine::{
-    check_budget, check_log, check_memory, Refusal, Registers, Status, PLAIN_LIMIT, RSP,
+    check_budget, check_log, check_memory, check_start, Refusal, Registers, Status, PLAIN_LIMIT,
+    RSP,
 };
 use super::table::{row_of, CALL, CMOV, IRMOVQ, JXX, MRMOVQ, OPQ, POPQ, PUSHQ, RET, RMMOVQ};
 use super::word;
@@ -23,16 +24,22 @@ pub struct Plain {
 }
 
 impl Plain {
-    /// A fresh start.
-    pub fn fresh(registers: Registers, codes: Codes, start: u64) -> Plain {
-        Plain {
+    /// A fresh start in a memory of this size.
+    pub fn fresh(
+        size: u64,
+        registers: Registers,
+        codes: Codes,
+        start: u64,
+    ) -> Result<Plain, Refusal> {
+        check_start(size, start)?;
+        Ok(Plain {
             registers,
             codes,
             address: start,
             status: Status::Aok,
             last: start,
             count: 0,
-        }
+        })
     }
 
     /// One step: a run of 1 without a log.
@@ -48,7 +55,7 @@ impl Plain {
         budget: u64,
         mut log: Option<&mut [u64]>,
     ) -> Result<(), Refusal> {
-        check_memory(memory)?;
+        check_memory(memory.len() as u64)?;
         check_budget(self.count, budget, PLAIN_LIMIT)?;
         if let Some(log) = &log {
             check_log(log, budget)?;

@@ -36,12 +36,13 @@ pub fn replay_to_record(
     codes: u64,
     budget: u64,
 ) -> Result<Pipeline, Refusal> {
-    check_memory(memory)?;
+    let size = memory.len() as u64;
+    check_memory(size)?;
     check_length(registers, REGISTER_BYTES, Refusal::Registers)?;
     check_budget(0, budget, CYCLE_LIMIT)?;
     check_length(result, RESULT_BYTES, Refusal::Buffer)?;
     let codes = Codes::from_number(codes).ok_or(Refusal::Record)?;
-    let mut machine = Pipeline::fresh(read_registers(registers), codes, start);
+    let mut machine = Pipeline::fresh(size, read_registers(registers), codes, start)?;
     machine.run(memory, budget, None)?;
     write_words(registers, &machine.registers.0);
     write_words(

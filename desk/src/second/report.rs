@@ -1,7 +1,7 @@
 //! The program's output text.
 
 use super::arithmetic::Codes;
-use super::machine::{Registers, REGISTER_NAMES};
+use super::machine::{Refusal, Registers, PROGRAM_LIMIT, REGISTER_NAMES};
 use super::pipeline::Pipeline;
 
 /// The program's cycle budget.
@@ -10,13 +10,22 @@ pub const PROGRAM_BUDGET: u64 = 4_000;
 /// The text the program writes for a raw image: registers 0, codes ZF=1,
 /// start 0, 4,000 cycles.
 pub fn y86run(image: &[u8]) -> String {
-    let mut memory = image.to_vec();
-    let codes = Codes::new(true, false, false);
-    let mut machine = Pipeline::fresh(Registers::default(), codes, 0);
-    match machine.run(&mut memory, PROGRAM_BUDGET, None) {
-        Ok(()) => report(&machine),
+    match program_run(&mut image.to_vec()) {
+        Ok(machine) => report(&machine),
         Err(refusal) => format!("y86run\t1\nrefused\t{}\n", refusal.number()),
     }
+}
+
+/// The program's run over an image, of which it holds at most 4,096 bytes.
+pub fn program_run(memory: &mut [u8]) -> Result<Pipeline, Refusal> {
+    if memory.len() > PROGRAM_LIMIT {
+        return Err(Refusal::Memory);
+    }
+    let codes = Codes::new(true, false, false);
+    let size = memory.len() as u64;
+    let mut machine = Pipeline::fresh(size, Registers::default(), codes, 0)?;
+    machine.run(memory, PROGRAM_BUDGET, None)?;
+    Ok(machine)
 }
 
 fn report(machine: &Pipeline) -> String {

@@ -23,6 +23,16 @@ pub fn registers(given: &[(u8, u64)]) -> Registers {
     registers
 }
 
+/// A fresh start of the plain engine, inside its memory.
+pub fn plain(memory: &[u8], given: Registers, codes: Codes, start: u64) -> Plain {
+    Plain::fresh(memory.len() as u64, given, codes, start).expect("a start")
+}
+
+/// A fresh start of the pipelined engine, inside its memory.
+pub fn pipeline(memory: &[u8], given: Registers, codes: Codes, start: u64) -> Pipeline {
+    Pipeline::fresh(memory.len() as u64, given, codes, start).expect("a start")
+}
+
 /// What a whole pipelined run leaves.
 pub struct Ran {
     pub machine: Pipeline,
@@ -42,7 +52,7 @@ impl Ran {
 /// A pipelined run of at most 4,000 cycles from address 0, ZF=1.
 pub fn run_pipeline(image: &[u8], given: Registers) -> Ran {
     let mut memory = image.to_vec();
-    let mut machine = Pipeline::fresh(given, codes(4), 0);
+    let mut machine = pipeline(&memory, given, codes(4), 0);
     let (mut addresses, mut cycles) = (vec![0; 4_000], vec![0; 4_000]);
     let logs = Logs {
         addresses: &mut addresses,
@@ -62,7 +72,7 @@ pub fn run_pipeline(image: &[u8], given: Registers) -> Ran {
 /// A plain run of at most 4,000 instructions from address 0, ZF=1.
 pub fn run_plain(image: &[u8], given: Registers) -> (Plain, Vec<u8>) {
     let mut memory = image.to_vec();
-    let mut machine = Plain::fresh(given, codes(4), 0);
+    let mut machine = plain(&memory, given, codes(4), 0);
     machine.run(&mut memory, 4_000, None).expect("a run");
     (machine, memory)
 }

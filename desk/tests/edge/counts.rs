@@ -2,7 +2,7 @@
 
 use crate::common::tally::{Classes, Tally};
 use desk::generate::Case;
-use desk::second::machine::{CYCLE_LIMIT, MEMORY_LIMIT};
+use desk::second::machine::{CYCLE_LIMIT, MEMORY_LIMIT, PROGRAM_LIMIT};
 use desk::second::pipeline::Pipeline;
 use desk::second::{Refusal, Status};
 
@@ -21,6 +21,7 @@ const CLASSES: &Classes = &[
             "charges",
             "self-modifying",
             "refusals",
+            "large",
         ],
     ),
     (
@@ -33,8 +34,12 @@ const CLASSES: &Classes = &[
             "budget spent",
         ],
     ),
-    ("refusal", &["1", "2", "3", "4", "5"]),
-    ("reasons to refuse", &["0", "1", "2", "3", "4", "5"]),
+    ("refusal", &["1", "2", "3", "4", "5", "6"]),
+    ("reasons to refuse", &["0", "1", "2", "3", "4", "5", "6"]),
+    (
+        "refusal 6 applies beside",
+        &["none", "1", "2", "3", "4", "5"],
+    ),
     (
         "charged for",
         &["nothing", "load-use", "mispredict", "return"],
@@ -42,7 +47,19 @@ const CLASSES: &Classes = &[
     (
         "size",
         &[
-            "0", "1", "2-7", "8-15", "16-255", "256-4095", "4096", "4097", "more",
+            "0",
+            "1",
+            "2-7",
+            "8-15",
+            "16-255",
+            "256-4095",
+            "4096",
+            "4097",
+            "4098-65534",
+            "65535",
+            "65536",
+            "65537",
+            "more",
         ],
     ),
     (
@@ -62,7 +79,32 @@ const CLASSES: &Classes = &[
     ("codes given", &NUMBERS),
     ("codes left", &NUMBERS),
     ("last kept", &INSTRUCTIONS),
-    ("start", &["inside", "outside"]),
+    (
+        "start",
+        &["0", "inside", "N - 1", "N", "outside", "2^64 - 1"],
+    ),
+    (
+        "last address",
+        &[
+            "below 4080",
+            "4080-4095",
+            "4096-4111",
+            "4112-65519",
+            "65520-65535",
+            "65536-65551",
+            "above",
+        ],
+    ),
+    (
+        "written",
+        &[
+            "nothing",
+            "below 4096 only",
+            "across 4096",
+            "above 4096",
+            "the byte at 65535",
+        ],
+    ),
     ("register block", &BLOCKS),
     ("result block", &BLOCKS),
 ];
@@ -91,25 +133,41 @@ impl Default for Counts {
 
 impl Counts {
     /// Counts a case by what was given and by what the second program made of
-    /// it.
-    pub fn add(&mut self, case: &Case, record: Result<Pipeline, Refusal>) {
+    /// it: its final record and memory.
+    pub fn add(&mut self, case: &Case, record: Result<Pipeline, Refusal>, memory: &[u8]) {
         self.cases += 1;
         self.count("kind", case.kind.name());
         self.count("size", size_class(case.image.len()));
         self.count("budget", budget_class(case.budget));
         self.count("register block", block_class(case.registers.len(), 120));
         self.count("result block", block_class(case.result.len(), 40));
-        self.count("reasons to refuse", NUMBERS[reasons(case)]);
+        self.count("start", start_class(case.start, case.image.len() as u64));
+        self.add_reasons(case);
         match record {
             Err(refusal) => self.count("refusal", NUMBERS[refusal.number() as usize]),
-            Ok(record) => self.add_run(case, &record),
+            Ok(record) => {
+                self.add_run(case, &record);
+                self.count("written", written_class(&case.image, memory));
+            }
+        }
+    }
+
+    fn add_reasons(&mut self, case: &Case) {
+        let reasons = reasons(case);
+        self.count("reasons to refuse", NUMBERS[reasons.len()]);
+        if let Some((6, others)) = reasons.split_last() {
+            for number in others {
+                self.count("refusal 6 applies beside", NUMBERS[*number]);
+            }
+            if others.is_empty() {
+                self.count("refusal 6 applies beside", "none");
+            }
         }
     }
 
     fn add_run(&mut self, case: &Case, record: &Pipeline) {
         self.sizes[case.image.len()] += 1;
-        let inside = case.start < case.image.len() as u64;
-        self.count("start", if inside { "inside" } else { "outside" });
+        self.count("last address", last_class(record.last));
         self.count("codes given", NUMBERS[case.codes as usize]);
         self.count("codes left", NUMBERS[record.codes.number() as usize]);
         self.count("stop", stop_class(record));
@@ -144,15 +202,17 @@ impl Counts {
 
     /// The counts, a line for each heading.
     pub fn table(&self) -> String {
-        let sizes = self.sizes[1..].iter().filter(|count| **count > 0).count();
+        let ran = |sizes: &[u64]| sizes.iter().filter(|count| **count > 0).count();
+        let (small, large) = self.sizes[1..].split_at(PROGRAM_LIMIT);
+        let (small, large) = (ran(small), ran(large));
         let table = self.classes.table(CLASSES);
-        format!("{table}sizes that ran: {sizes} of {MEMORY_LIMIT}")
+        format!("{table}sizes that ran: {small} of {PROGRAM_LIMIT}, and {large} above")
     }
 
     /// Every class occurred, and often; so did every size from 1 to 4,096.
     pub fn check(&self) {
         self.classes.check(CLASSES, 1 + self.cases / 10_000);
-        let missing = (1..=MEMORY_LIMIT).find(|size| self.sizes[*size] == 0);
+        let missing = (1..=PROGRAM_LIMIT).find(|size| self.sizes[*size] == 0);
         assert_eq!(missing, None, "a size that did not occur");
     }
 }
@@ -167,7 +227,50 @@ fn size_class(size: usize) -> &'static str {
         256..=4_095 => "256-4095",
         4_096 => "4096",
         4_097 => "4097",
+        4_098..=65_534 => "4098-65534",
+        65_535 => "65535",
+        65_536 => "65536",
+        65_537 => "65537",
         _ => "more",
+    }
+}
+
+fn start_class(start: u64, size: u64) -> &'static str {
+    match start {
+        u64::MAX => "2^64 - 1",
+        _ if start == size => "N",
+        _ if start > size => "outside",
+        0 => "0",
+        _ if start == size - 1 => "N - 1",
+        _ => "inside",
+    }
+}
+
+fn last_class(last: u64) -> &'static str {
+    match last {
+        0..=4_079 => "below 4080",
+        4_080..=4_095 => "4080-4095",
+        4_096..=4_111 => "4096-4111",
+        4_112..=65_519 => "4112-65519",
+        65_520..=65_535 => "65520-65535",
+        65_536..=65_551 => "65536-65551",
+        _ => "above",
+    }
+}
+
+/// Where a run changed memory.
+fn written_class(before: &[u8], after: &[u8]) -> &'static str {
+    let changed = |at: usize| before.get(at) != after.get(at);
+    if before == after {
+        "nothing"
+    } else if changed(65_535) {
+        "the byte at 65535"
+    } else if changed(4_095) && changed(4_096) {
+        "across 4096"
+    } else if before.len() > PROGRAM_LIMIT && before[PROGRAM_LIMIT..] != after[PROGRAM_LIMIT..] {
+        "above 4096"
+    } else {
+        "below 4096 only"
     }
 }
 
@@ -194,8 +297,8 @@ fn block_class(length: usize, right: usize) -> &'static str {
     }
 }
 
-/// How many of the five refusals a case asks for.
-fn reasons(case: &Case) -> usize {
+/// The numbers of the refusals that a case asks for.
+fn reasons(case: &Case) -> Vec<usize> {
     let size = case.image.len();
     let asked = [
         size == 0 || size > MEMORY_LIMIT,
@@ -203,8 +306,9 @@ fn reasons(case: &Case) -> usize {
         case.budget == 0 || case.budget > CYCLE_LIMIT,
         case.result.len() != 40,
         case.codes > 7,
+        case.start >= size as u64,
     ];
-    asked.iter().filter(|asked| **asked).count()
+    (1..=6).filter(|number| asked[number - 1]).collect()
 }
 
 /// Why a run ended. One that stopped still has its last instruction in W, and

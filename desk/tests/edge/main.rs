@@ -70,8 +70,8 @@ impl Left {
     }
 }
 
-/// Compares one case; gives the second program's record.
-fn compare(case: &Case, budget: u64, name: &str) -> Result<Pipeline, Refusal> {
+/// Compares one case; gives the second program's record and final memory.
+fn compare(case: &Case, budget: u64, name: &str) -> (Result<Pipeline, Refusal>, Vec<u8>) {
     let product = Left::by_product(case, budget);
     let (second, record) = Left::by_second(case, budget);
     assert!(
@@ -79,7 +79,7 @@ fn compare(case: &Case, budget: u64, name: &str) -> Result<Pipeline, Refusal> {
         "{name}, budget {budget}: {}\n{case:x?}",
         difference(&product, &second)
     );
-    record
+    (record, second.memory)
 }
 
 /// Where two replays differ, the product's before the second program's.
@@ -137,12 +137,9 @@ fn compare_many(seed: u64, cases: u64) -> Counts {
     let mut counts = Counts::default();
     for number in 0..cases {
         let case = generator.case();
-        let record = compare(
-            &case,
-            case.budget,
-            &format!("seed {seed:#x}, case {number}"),
-        );
-        counts.add(&case, record);
+        let name = format!("seed {seed:#x}, case {number}");
+        let (record, memory) = compare(&case, case.budget, &name);
+        counts.add(&case, record, &memory);
     }
     counts
 }
@@ -161,7 +158,7 @@ fn every_budget_up_to_the_stop_agrees() {
         let mut status = Status::Aok;
         for budget in 1..=120 {
             let before = status;
-            let record = compare(&case, budget, &format!("program {number}"));
+            let (record, _) = compare(&case, budget, &format!("program {number}"));
             status = record.expect("no refusal").status;
             compared += 1;
             if before != Status::Aok {
@@ -201,14 +198,14 @@ fn nothing_but_the_lent_bytes_is_touched() {
     }
 }
 
-/// All combinations of the five refusals, with every buffer left alone.
+/// All combinations of the six refusals, with every buffer left alone.
 #[test]
 fn refusals_agree_in_every_combination() {
-    for spoilt in 0..32_u64 {
+    for spoilt in 0..64_u64 {
         let way = |number: u64| spoilt >> (number - 1) & 1 == 1;
         let pick = |number, good: [u64; 2], bad: [u64; 2]| if way(number) { bad } else { good };
         for turn in 0..2 {
-            let size = pick(1, [1, 4_096], [0, 4_097])[turn];
+            let size = pick(1, [1, 65_536], [0, 65_537])[turn];
             let registers = pick(2, [120, 120], [119, 121])[turn];
             let result = pick(4, [40, 40], [41, 0])[turn];
             let case = Case {
@@ -216,11 +213,11 @@ fn refusals_agree_in_every_combination() {
                 image: vec![0x10; size as usize],
                 registers: vec![3; registers as usize],
                 result: vec![5; result as usize],
-                start: 0,
+                start: pick(6, [0, size.wrapping_sub(1)], [size, u64::MAX])[turn],
                 codes: pick(5, [0, 7], [8, u64::MAX])[turn],
                 budget: pick(3, [1, 262_145], [0, 262_146])[turn],
             };
-            let lowest = (1..=5).find(|number| way(*number)).unwrap_or(0);
+            let lowest = (1..=6).find(|number| way(*number)).unwrap_or(0);
             let left = Left::by_product(&case, case.budget);
             assert_eq!(left.answer, lowest);
             assert!(left == Left::by_second(&case, case.budget).0);

@@ -10,7 +10,17 @@ use desk::second::table::{CALL, CMOV, JXX, OPQ, RET};
 const ORIGINS: [&str; 3] = ["fresh", "reached", "hand-made"];
 const STATUSES: [&str; 4] = ["AOK", "HLT", "ADR", "INS"];
 const BUDGETS: [&str; 5] = ["1", "2-9", "10-99", "100-9999", "10000 or more"];
-const SIZES: [&str; 4] = ["1", "2-255", "256-4095", "4096"];
+const SIZES: [&str; 7] = [
+    "1",
+    "2-255",
+    "256-4095",
+    "4096",
+    "4097-65534",
+    "65535",
+    "65536",
+];
+const ADDRESSES: [&str; 2] = ["inside", "outside"];
+const START_REASONS: [&str; 4] = ["nothing", "1", "6", "1+6"];
 const LIMITS: [&str; 2] = ["not reached", "reached"];
 const LOGS: [&str; 3] = ["as long as the budget", "longer", "shorter"];
 const HELD: [&str; 13] = [
@@ -29,6 +39,8 @@ pub const CLASSES: &Classes = &[
         &["nothing", "1", "3", "1+3", "4", "1+4", "3+4", "1+3+4"],
     ),
     ("plain::step refused for", &["nothing", "1", "3", "1+3"]),
+    ("plain::start refused for", &START_REASONS),
+    ("pipe::start refused for", &START_REASONS),
     (
         "pipe::run refused for",
         &[
@@ -48,6 +60,7 @@ pub const CLASSES: &Classes = &[
     ("plain status given", &STATUSES),
     ("plain status left", &STATUSES),
     ("plain memory", &SIZES),
+    ("plain address given", &ADDRESSES),
     ("plain budget", &BUDGETS),
     ("plain limit", &LIMITS),
     ("plain log", &LOGS),
@@ -59,6 +72,7 @@ pub const CLASSES: &Classes = &[
     ("pipeline status given", &STATUSES),
     ("pipeline status left", &STATUSES),
     ("pipeline memory", &SIZES),
+    ("pipeline address given", &ADDRESSES),
     ("pipeline budget", &BUDGETS),
     ("pipeline limit", &LIMITS),
     ("pipeline logs", &LOGS),
@@ -119,7 +133,7 @@ pub const CLASSES: &Classes = &[
 ];
 
 /// The refusals that apply, as the classes name them.
-fn reasons_name(reasons: &[Refusal]) -> &'static str {
+pub fn reasons_name(reasons: &[Refusal]) -> &'static str {
     let numbers = reasons.iter().map(|reason| reason.number().to_string());
     let text = numbers.collect::<Vec<String>>().join("+");
     let all = CLASSES.iter().flat_map(|(_, names)| names.iter());
@@ -145,7 +159,10 @@ fn size_name(size: usize) -> &'static str {
         0 | 1 => "1",
         2..=255 => "2-255",
         256..=4_095 => "256-4095",
-        _ => "4096",
+        4_096 => "4096",
+        4_097..=65_534 => "4097-65534",
+        65_535 => "65535",
+        _ => "65536",
     }
 }
 
@@ -193,6 +210,8 @@ impl<R: Counted> Compared<'_, R> {
         tally.count(headings.given, status_name(self.given.record.status()));
         tally.count(headings.left, status_name(self.left.record.status()));
         tally.count(headings.memory, size_name(self.given.memory.len()));
+        let outside = self.given.record.next_address() >= self.given.memory.len() as u64;
+        tally.count(headings.address, ADDRESSES[usize::from(outside)]);
         tally.count(headings.budget, budget_name(budget));
         let reached = self.given.record.spent() + budget == R::LIMIT;
         tally.count(headings.limit, LIMITS[usize::from(reached)]);
@@ -211,6 +230,7 @@ impl<R: Counted> Compared<'_, R> {
 /// The headings under which an engine's calls are counted.
 pub struct Headings {
     memory: &'static str,
+    address: &'static str,
     limit: &'static str,
     record: &'static str,
     given: &'static str,
@@ -231,6 +251,7 @@ pub trait Counted: Engine {
 impl Counted for Machine {
     const HEADINGS: Headings = Headings {
         memory: "plain memory",
+        address: "plain address given",
         limit: "plain limit",
         record: "plain record",
         given: "plain status given",
@@ -248,6 +269,7 @@ impl Counted for Machine {
 impl Counted for Pipeline {
     const HEADINGS: Headings = Headings {
         memory: "pipeline memory",
+        address: "pipeline address given",
         limit: "pipeline limit",
         record: "pipeline record",
         given: "pipeline status given",

@@ -20,7 +20,9 @@ extern "C" {
         block: *mut u64,
         words: usize,
     ) -> u64;
-    fn trial_plain_start(block: *mut u64, words: usize, address: u64);
+    // A start is given the size of memory before its address, and answers by
+    // number (#109); `start_by_product` alone calls it.
+    fn trial_plain_start(block: *mut u64, words: usize, size: u64, address: u64) -> u64;
     fn trial_plain_step(block: *mut u64, words: usize, memory: *mut u8, bytes: usize) -> u64;
     fn trial_plain_run(
         block: *mut u64,
@@ -31,7 +33,7 @@ extern "C" {
         log: *mut u64,
         log_length: usize,
     ) -> u64;
-    fn trial_pipe_start(block: *mut u64, words: usize, address: u64);
+    fn trial_pipe_start(block: *mut u64, words: usize, size: u64, address: u64) -> u64;
     fn trial_pipe_clock(block: *mut u64, words: usize, memory: *mut u8, bytes: usize) -> u64;
     fn trial_pipe_run_unlogged(
         block: *mut u64,
@@ -116,10 +118,16 @@ pub trait Engine: Record + Block {
     /// Every refusal that applies to a call, by the letter.
     fn reasons(&self, call: &Call<Self>) -> Vec<Refusal>;
 
-    /// A fresh start with this record's registers and codes, by the product
-    /// and by the letter. The product writes it over this record's block, so
-    /// that a word left over shows.
-    fn starts(&self, start: u64) -> [Self; 2];
+    /// The heading under which refused starts are counted.
+    const START_REFUSED: &'static str;
+
+    /// A fresh start with this record's registers and codes in a memory of
+    /// this size, by the product: over this record's block, so that a word left
+    /// over shows. Answers 0 or the number of the refusal.
+    fn start_by_product(&mut self, size: u64, start: u64) -> u64;
+
+    /// The same by the letter. A refused start leaves the record as it was.
+    fn start_by_letter(&mut self, size: u64, start: u64) -> u64;
 }
 
 impl Engine for Machine {
@@ -128,12 +136,17 @@ impl Engine for Machine {
         Machine::reasons(self, &call.memory, call.budget, &logs)
     }
 
-    fn starts(&self, start: u64) -> [Machine; 2] {
-        let mut product = *self;
-        in_block(&mut product, |block| unsafe {
-            trial_plain_start(block.as_mut_ptr(), block.len(), start)
-        });
-        [product, Machine::fresh(self.registers, self.codes, start)]
+    const START_REFUSED: &'static str = "plain::start refused for";
+
+    fn start_by_product(&mut self, size: u64, start: u64) -> u64 {
+        in_block(self, |block| unsafe {
+            trial_plain_start(block.as_mut_ptr(), block.len(), size, start)
+        })
+    }
+
+    fn start_by_letter(&mut self, size: u64, start: u64) -> u64 {
+        let fresh = Machine::fresh(size, self.registers, self.codes, start);
+        number(fresh.map(|fresh| *self = fresh))
     }
 }
 
@@ -143,12 +156,17 @@ impl Engine for Pipeline {
         Pipeline::reasons(self, &call.memory, call.budget, &logs)
     }
 
-    fn starts(&self, start: u64) -> [Pipeline; 2] {
-        let mut product = *self;
-        in_block(&mut product, |block| unsafe {
-            trial_pipe_start(block.as_mut_ptr(), block.len(), start)
-        });
-        [product, Pipeline::fresh(self.registers, self.codes, start)]
+    const START_REFUSED: &'static str = "pipe::start refused for";
+
+    fn start_by_product(&mut self, size: u64, start: u64) -> u64 {
+        in_block(self, |block| unsafe {
+            trial_pipe_start(block.as_mut_ptr(), block.len(), size, start)
+        })
+    }
+
+    fn start_by_letter(&mut self, size: u64, start: u64) -> u64 {
+        let fresh = Pipeline::fresh(size, self.registers, self.codes, start);
+        number(fresh.map(|fresh| *self = fresh))
     }
 }
 

@@ -5,7 +5,7 @@ use crate::common::tally::{Classes, Tally};
 use crate::entries::{fetch, number};
 use desk::generate::Calls;
 use desk::second::letter;
-use desk::second::machine::MEMORY_LIMIT;
+use desk::second::machine::{MEMORY_LIMIT, PROGRAM_LIMIT};
 use desk::second::Status;
 
 const CLASSES: &Classes = &[
@@ -16,7 +16,11 @@ const CLASSES: &Classes = &[
             "popq", "HLT", "ADR", "INS",
         ],
     ),
-    ("refused for memory", &["empty", "no", "over 4096"]),
+    ("refused for memory", &["empty", "no", "over 65536"]),
+    (
+        "memory over 4096, address",
+        &["4085-4095", "4096-4105", "65526-65535", "65536-65545"],
+    ),
     (
         "address",
         &[
@@ -64,10 +68,20 @@ fn count(tally: &mut Tally, memory: &[u8], fetched: &letter::Instruction) {
     let name = match size {
         0 => "empty",
         1..=MEMORY_LIMIT => "no",
-        _ => "over 4096",
+        _ => "over 65536",
     };
     tally.count("refused for memory", name);
     let (size, address) = (size as u64, fetched.address);
+    let around = match address {
+        4_085..=4_095 => Some("4085-4095"),
+        4_096..=4_105 => Some("4096-4105"),
+        65_526..=65_535 => Some("65526-65535"),
+        65_536..=65_545 => Some("65536-65545"),
+        _ => None,
+    };
+    if let (Some(around), true) = (around, size > PROGRAM_LIMIT as u64) {
+        tally.count("memory over 4096, address", around);
+    }
     let name = match address {
         _ if address > u64::MAX - 10 => "next address wraps",
         _ if address >= size => "outside",

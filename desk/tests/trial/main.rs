@@ -17,8 +17,9 @@ mod entries;
 mod fetching;
 
 use common::tally::Tally;
-use counts::{Compared, Counted, CLASSES};
+use counts::{reasons_name, Compared, Counted, CLASSES};
 use desk::generate::{Call, Calls, Way};
+use desk::second::letter::of_start;
 use desk::second::Status;
 use entries::{Engine, Entry, PIPE_CLOCK, PIPE_RUN, PIPE_RUN_UNLOGGED, PLAIN_RUN, PLAIN_STEP};
 use std::time::Instant;
@@ -85,7 +86,7 @@ impl Trial {
         let reasons = given.record.reasons(&given);
         let left = self.compare(entry, &given);
         assert_eq!(left.is_none(), !reasons.is_empty(), "{}", self.name);
-        self.compare_start(&given);
+        self.compare_start(&given.record);
         let compared = Compared {
             origin,
             given: &given,
@@ -135,10 +136,23 @@ impl Trial {
         Some(product)
     }
 
-    /// A fresh start over the record's block; any number serves as its address.
-    fn compare_start<R: Engine>(&self, given: &Call<R>) {
-        let [product, letter] = given.record.starts(given.budget);
-        assert_eq!(product, letter, "{}", self.name);
+    /// A fresh start over a record, in a memory of any size at any address.
+    fn compare_start<R: Engine>(&mut self, given: &R) {
+        let (size, start) = self.calls.start();
+        let (mut product, mut letter) = (given.clone(), given.clone());
+        let answer = product.start_by_product(size, start);
+        let expected = letter.start_by_letter(size, start);
+        let name = &self.name;
+        assert_eq!(answer, expected, "{name}: start {start} in {size} bytes");
+        assert_eq!(product, letter, "{name}: start {start} in {size} bytes");
+        if answer != 0 {
+            assert!(
+                product == *given,
+                "{name}: a refused start has changed something"
+            );
+        }
+        let reasons = reasons_name(&of_start(size, start));
+        self.tally.count(R::START_REFUSED, reasons);
     }
 
     /// A run cut in two: the second part is lent what the first left of the

@@ -14,8 +14,8 @@ returns c =
     request-refused (c .before .before .before .before .before .args .request) _ _ _ (c .before .before .before .image-refused .ensures)
     (c .before .before .if1 .taken) (c .write-refusal .ensures)
 
-replay-requires : tie.Need-replay-requires
-replay-requires c κs = search needs
+run-image-requires : tie.Need-run-image-requires
+run-image-requires c κs = search needs
 
 judge-requires : tie.Need-judge-requires
 judge-requires c κs = search needs
@@ -29,9 +29,9 @@ same-length c = search needs
 returns-2 : tie.Need-returns-2
 returns-2 c =
     request-done (c .before .before .before .before .before .before .before .before .before .before .before .args .request) _ _ _
-    (c .before .before .before .before .before .before .before .before .before .image-refused .ensures) _ _
+    (c .before .before .before .before .before .before .before .before .before .image-refused .ensures) _ _ _ _
     (c .before .before .before .before .before .before .before .before .if1 .left)
-    (c .before .before .before .before .before .before .replay .ensures) (c .before .before .judge .ensures) (c .write-answer .ensures)
+    (c .before .before .before .before .before .before .run-image .ensures) (c .before .before .judge .ensures) (c .write-answer .ensures)
 
 pub report-request-spec : {M : Type 1} → statement M
 report-request-spec =
@@ -40,7 +40,7 @@ report-request-spec =
     image-refused-requires
     write-refusal-requires
     returns
-    replay-requires
+    run-image-requires
     judge-requires
     write-answer-requires
     same-length

@@ -19,7 +19,7 @@ read-registers-requires : tie.Need-read-registers-requires
 read-registers-requires c κs =
     let tested : tie.After-refusal = search in
     let allows : tie.Else1 = search in
-    allowed _ _ _ _ _ _ (tested .refusal .ensures) (allows .if1 .left) .whole
+    allowed _ _ _ _ _ _ _ (tested .refusal .ensures) (allows .if1 .left) .whole
 
 codes-from-requires : tie.Need-codes-from-requires
 codes-from-requires c κs = search needs
@@ -34,14 +34,14 @@ write-registers-requires : tie.Need-write-registers-requires
 write-registers-requires c κs =
     let allows : tie.Else1 = search in
     let tested : tie.After-refusal = search in
-    allowed _ _ _ _ _ _ (tested .refusal .ensures) (allows .if1 .left) .whole
+    allowed _ _ _ _ _ _ _ (tested .refusal .ensures) (allows .if1 .left) .whole
 
 write-result-requires : tie.Need-write-result-requires
 write-result-requires c κs =
     let written : tie.After-write-registers = search in
     let allows : tie.Else1 = search in
     let tested : tie.After-refusal = search in
-    allowed _ _ _ _ _ _ (tested .refusal .ensures) (allows .if1 .left) .room
+    allowed _ _ _ _ _ _ _ (tested .refusal .ensures) (allows .if1 .left) .room
 
 same-length : tie.Need-same-length
 same-length c = search needs
@@ -63,7 +63,7 @@ returns-2 c =
     let settings : tie.After-as-in-01 = search in
     let allows : tie.Else1 = search in
     let tested : tie.After-refusal = search in
-    replays _ _ _ _ _ _ _ (tested .refusal .ensures) _ _ _ _ _ _ _ _ _ (allows .if1 .left) (read .read-registers .ensures)
+    replays _ _ _ _ _ _ _ (tested .refusal .ensures) _ _ _ _ _ _ _ _ _ _ (allows .if1 .left) (read .read-registers .ensures)
     (codes .codes-from .ensures) (settings .as-in-01 .ensures) (fresh .start .ensures) (run .run-unlogged .ensures) (written .write-registers .ensures)
     (answered .write-result .ensures)
 

@@ -9,7 +9,7 @@ start-of : tie.After-fetch-now → tie.Start
 start-of c = search
 
 fetch-now-requires : tie.Need-fetch-now-requires
-fetch-now-requires c κs = search (needs, wrong-carried)
+fetch-now-requires c κs = search needs
 
 after-m-requires : tie.Need-after-m-requires
 after-m-requires c κs = search needs

@@ -1,11 +1,24 @@
-use mathlib.Core.Path.{refl}
+use mathlib.Core.Path.{_≡_, ap}
+use Prim.Native.Nat.{ℕ}
+use Rattle.machine.specs.declared.Codes.{Codes}
+use Rattle.machine.specs.declared.Machine.{Machine}
+use Rattle.machine.specs.Memory.{Registers}
 use Rattle.machine.specs.Plain.{plainStart}
+use Rattle.machine.specs.Runs.{startRefusal, plainStarted}
+use borrow.Author.Needs.{needs}
 use Rattle.plain.proofs.start.Statement.{statement}
 use Rattle.plain.proofs.start.Tie as tie
 
+started : (size : ℕ) (r : Registers) (k : Codes) (a n : ℕ) → n ≡ startRefusal size a → _≡_ {A = ℕ × Machine} (n, plainStart r k a) (plainStarted size r k a)
+unfolding plainStarted
+started size r k a n h = ap (λ (x : ℕ). (x, plainStart r k a)) h
+
+start-refusal-requires : tie.Need-start-refusal-requires
+start-refusal-requires c κs = search needs
+
 returns : tie.Need-returns
 unfolding plainStart
-returns c = refl
+returns c = started _ _ _ _ _ (c .start-refusal .ensures)
 
 pub start-spec : {M : Type 1} → statement M
-start-spec = tie.close (tie.spec returns)
+start-spec = tie.close (tie.spec start-refusal-requires returns)

@@ -1,6 +1,6 @@
 -- The tests in the order of their numbers: one law of `Ways` for each way out. The `let`s name the record of facts behind each test that failed.
 use native.Mathlib.Omega.{arith}
-use Rattle.replay_ends.proofs.Ways.{refused-1, refused-2, refused-3, refused-4, refused-5, refused-0}
+use Rattle.replay_ends.proofs.Ways.{refused-1, refused-2, refused-3, refused-4, refused-5, refused-6, refused-0}
 use borrow.Author.Needs.{needs}
 use Rattle.replay_ends.proofs.refusal.Statement.{statement}
 use Rattle.replay_ends.proofs.refusal.Tie as tie
@@ -26,14 +26,28 @@ returns-4 c = search (needs, refused-4)
 returns-5 : tie.Need-returns-5
 returns-5 c = search (needs, refused-5)
 
+start-refused-requires : tie.Need-start-refused-requires
+start-refused-requires c κs = search needs
+
 returns-6 : tie.Need-returns-6
 returns-6 c =
-    let fourth = c .before in
+    let fifth = c .before .before in
+    let fourth = fifth .before in
     let third = fourth .before in
     let second = third .before .before in
     let first = second .before in
-    refused-0 _ _ _ _ _ _ (first .before .size-refused .ensures) (first .if1 .left) _ (second .if2 .left) (third .before .budget-refused .ensures)
-    (third .if3 .left) (fourth .if4 .left) (omega arith)
+    refused-6 _ _ _ _ _ _ _ (first .before .size-refused .ensures) (first .if1 .left) _ (second .if2 .left) (third .before .budget-refused .ensures)
+    (third .if3 .left) _ (c .before .start-refused .ensures) (fourth .if4 .left) (omega arith) (c .if6 .taken)
+
+returns-7 : tie.Need-returns-7
+returns-7 c =
+    let fifth = c .before .before in
+    let fourth = fifth .before in
+    let third = fourth .before in
+    let second = third .before .before in
+    let first = second .before in
+    refused-0 _ _ _ _ _ _ _ (first .before .size-refused .ensures) (first .if1 .left) _ (second .if2 .left) (third .before .budget-refused .ensures)
+    (third .if3 .left) _ (c .before .start-refused .ensures) (fourth .if4 .left) (omega arith) (c .if6 .left)
 
 pub refusal-spec : {M : Type 1} → statement M
 refusal-spec =
@@ -46,4 +60,6 @@ refusal-spec =
     returns-3
     returns-4
     returns-5
-    returns-6)
+    start-refused-requires
+    returns-6
+    returns-7)

@@ -1,5 +1,5 @@
-//! The second program by the letter: document 01's rules, one after the other,
-//! with no regard for time.
+//! The second program by the letter: the rules of documents 01 and 02, one after
+//! the other, with no regard for time.
 //!
 //! The engines beside this module are made to be fast, and so their records
 //! cannot hold everything: an instruction has no next address of its own, and
@@ -22,3 +22,4 @@ pub use fetch::fetch_open;
 pub use instruction::Instruction;
 pub use pipeline::{Accessed, Decoded, Executed, Pipeline, Retired};
 pub use plain::Machine;
+pub use refusals::of_start;

@@ -1,6 +1,6 @@
 //! The pipelined engine by the letter: its record and its runs.
 
-use super::refusals::{lowest, of_budget, of_logs, of_memory};
+use super::refusals::{lowest, of_budget, of_logs, of_memory, of_start};
 use super::Instruction;
 use crate::second::arithmetic::Codes;
 use crate::second::machine::{Refusal, Registers, Status, CYCLE_LIMIT};
@@ -61,9 +61,16 @@ pub struct Pipeline {
 }
 
 impl Pipeline {
-    /// A fresh start: F holds the start address and the rest are bubbles.
-    pub fn fresh(registers: Registers, codes: Codes, start: u64) -> Pipeline {
-        Pipeline {
+    /// A fresh start in a memory of this size: F holds the start address and
+    /// the rest are bubbles.
+    pub fn fresh(
+        size: u64,
+        registers: Registers,
+        codes: Codes,
+        start: u64,
+    ) -> Result<Pipeline, Refusal> {
+        lowest(&of_start(size, start))?;
+        Ok(Pipeline {
             predicted: start,
             d: None,
             e: None,
@@ -77,7 +84,7 @@ impl Pipeline {
             cycles: 0,
             kinds: Kinds::default(),
             kept: None,
-        }
+        })
     }
 
     /// The instructions in D, E, M and W and the kept one, in this order.

@@ -1,6 +1,6 @@
 //! The plain engine by the letter.
 
-use super::refusals::{lowest, of_budget, of_logs, of_memory};
+use super::refusals::{lowest, of_budget, of_logs, of_memory, of_start};
 use super::work::{codes_after, holds, result, Access};
 use super::{fetch, Instruction};
 use crate::second::arithmetic::Codes;
@@ -19,16 +19,22 @@ pub struct Machine {
 }
 
 impl Machine {
-    /// A fresh start.
-    pub fn fresh(registers: Registers, codes: Codes, start: u64) -> Machine {
-        Machine {
+    /// A fresh start in a memory of this size.
+    pub fn fresh(
+        size: u64,
+        registers: Registers,
+        codes: Codes,
+        start: u64,
+    ) -> Result<Machine, Refusal> {
+        lowest(&of_start(size, start))?;
+        Ok(Machine {
             registers,
             codes,
             address: start,
             status: Status::Aok,
             last: start,
             count: 0,
-        }
+        })
     }
 
     /// Every refusal that applies to a run; logs is empty for one without.

@@ -1,7 +1,7 @@
 use mathlib.Core.Path.{refl}
-use Rattle.dayreport.specs.Program.{imageRefused}
-use Rattle.dayreport.proofs.image_refused.Statement.{statement}
-use Rattle.dayreport.proofs.image_refused.Tie as tie
+use Rattle.report.specs.Report.{imageRefused}
+use Rattle.report.proofs.image_refused.Statement.{statement}
+use Rattle.report.proofs.image_refused.Tie as tie
 
 returns : tie.Need-returns
 unfolding imageRefused

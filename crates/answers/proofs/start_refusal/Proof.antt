@@ -1,0 +1,22 @@
+use Rattle.answers.proofs.Ways.{no-size, not-below, starts}
+use borrow.Author.Needs.{needs}
+use Rattle.answers.proofs.start_refusal.Statement.{statement}
+use Rattle.answers.proofs.start_refusal.Tie as tie
+
+size-refused-requires : tie.Need-size-refused-requires
+size-refused-requires c κs = search needs
+
+returns : tie.Need-returns
+returns c = search (needs, no-size)
+
+start-refused-requires : tie.Need-start-refused-requires
+start-refused-requires c κs = search needs
+
+returns-2 : tie.Need-returns-2
+returns-2 c = search (needs, not-below)
+
+returns-3 : tie.Need-returns-3
+returns-3 c = search (needs, starts)
+
+pub start-refusal-spec : {M : Type 1} → statement M
+start-refusal-spec = tie.close (tie.spec size-refused-requires returns start-refused-requires returns-2 returns-3)
