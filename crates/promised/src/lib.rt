@@ -4,6 +4,7 @@ use clocked::Pipeline;
 use clocked::Settings;
 use machine::Codes;
 use machine::FetchAnswer;
+use machine::Machine;
 use machine::REGISTERS;
 ghost use mathlib.Core.List.{[]};
 ghost use Rattle.machine.specs.Memory.{lent};
