@@ -3,7 +3,8 @@
 use super::Random;
 use crate::second::machine::{MEMORY_LIMIT, PROGRAM_LIMIT};
 use crate::second::table::{
-    row_of, RegisterByte, CALL, CMOV, HALT, IRMOVQ, JXX, MRMOVQ, NOP, OPQ, POPQ, PUSHQ, RET, RMMOVQ,
+    row_of, RegisterByte, CALL, CMOV, HALT, IADDQ, IRMOVQ, JXX, MRMOVQ, NOP, OPQ, POPQ, PUSHQ, RET,
+    RMMOVQ,
 };
 use crate::second::{REGISTER_COUNT, RSP};
 
@@ -15,9 +16,9 @@ pub struct Program {
 }
 
 /// Codes in the frequency in which a soup holds them.
-const SOUP: [u8; 24] = [
+const SOUP: [u8; 26] = [
     NOP, CMOV, CMOV, IRMOVQ, IRMOVQ, IRMOVQ, RMMOVQ, RMMOVQ, MRMOVQ, MRMOVQ, MRMOVQ, OPQ, OPQ, OPQ,
-    OPQ, JXX, JXX, CALL, RET, PUSHQ, PUSHQ, POPQ, POPQ, POPQ,
+    OPQ, JXX, JXX, CALL, RET, PUSHQ, PUSHQ, POPQ, POPQ, POPQ, IADDQ, IADDQ,
 ];
 
 /// Bytes that make short instructions in almost any order.
@@ -26,7 +27,7 @@ const LEANING: [u8; 16] = [
 ];
 
 /// Codes of a straight line, which leaves rsp and the program address alone.
-const LINE: [u8; 8] = [NOP, CMOV, IRMOVQ, OPQ, OPQ, OPQ, RMMOVQ, MRMOVQ];
+const LINE: [u8; 9] = [NOP, CMOV, IRMOVQ, IADDQ, OPQ, OPQ, OPQ, RMMOVQ, MRMOVQ];
 
 /// Code being written, instruction after instruction.
 struct Code {
@@ -65,6 +66,10 @@ impl Code {
 
     fn irmovq(&mut self, constant: u64, rb: u8) {
         self.write((IRMOVQ, 0), (0, rb), constant);
+    }
+
+    fn iaddq(&mut self, constant: u64, rb: u8) {
+        self.write((IADDQ, 0), (0, rb), constant);
     }
 
     fn opq(&mut self, function: u8, ra: u8, rb: u8) {
@@ -173,6 +178,7 @@ fn soup_code(random: &mut Random, size: usize, start: u64) -> (Code, Vec<u64>) {
         let constant = match *number {
             JXX | CALL => target(random, size, &addresses[place..], &addresses),
             RMMOVQ | MRMOVQ if random.chance(3, 4) => random.below(64),
+            IADDQ => addend(random),
             _ => value(random, size),
         };
         let named = (register(random), register(random));
@@ -285,7 +291,9 @@ pub fn ends(random: &mut Random, size: usize) -> Program {
     let mut code = Code::at(origin);
     let mut earlier = RSP;
     for _ in 0..1 + random.below(6) {
-        let number = random.pick(&[IRMOVQ, RMMOVQ, MRMOVQ, PUSHQ, POPQ, CALL, RET, JXX, OPQ]);
+        let number = random.pick(&[
+            IRMOVQ, RMMOVQ, MRMOVQ, PUSHQ, POPQ, CALL, RET, JXX, OPQ, IADDQ,
+        ]);
         let function = random.below(u64::from(row_of(number).functions)) as u8;
         // What the one before it may have loaded is often used.
         let rb = register(random);
@@ -409,9 +417,10 @@ fn load_and_use(random: &mut Random, code: &mut Code, size: usize) {
         code.plain(NOP);
     }
     let function = random.below(4) as u8;
-    match random.below(6) {
+    match random.below(7) {
         0 => code.opq(function, loaded, other),
         1 => code.opq(function, other, loaded),
+        6 => code.iaddq(addend(random), random.pick(&[loaded, loaded, other])),
         2 => code.write((CMOV, random.below(7) as u8), (loaded, other), 0),
         3 => code.write((MRMOVQ, 0), (other, loaded), at),
         4 => code.pushq(loaded),
@@ -419,12 +428,26 @@ fn load_and_use(random: &mut Random, code: &mut Code, size: usize) {
     }
 }
 
+/// One of the instructions that set the codes.
+fn set_codes(random: &mut Random, code: &mut Code) {
+    match random.below(3) {
+        0 => code.iaddq(addend(random), register(random)),
+        _ => code.opq(random.below(4) as u8, register(random), register(random)),
+    }
+}
+
+/// A constant for iaddq: often an end of the signed numbers, or a small step.
+fn addend(random: &mut Random) -> u64 {
+    let (any, few) = (random.word(), random.below(17).wrapping_sub(8));
+    random.pick(&[1 << 63, (1 << 63) - 1, few, few, any])
+}
+
 /// A jump over one instruction, behind one that sets the codes or not.
 fn jump_piece(random: &mut Random, code: &mut Code) {
     if random.chance(2, 3) {
-        code.opq(random.below(4) as u8, register(random), register(random));
+        set_codes(random, code);
     }
-    let skipped = random.pick(&[HALT, NOP, RET, 0xc]);
+    let skipped = random.pick(&[HALT, NOP, RET, 0xd]);
     let target = code.here() + 9 + 1;
     code.jump(random.below(7) as u8, target);
     code.plain(skipped);
@@ -452,10 +475,11 @@ fn return_piece(random: &mut Random, code: &mut Code) {
 fn stop_piece(random: &mut Random, code: &mut Code, size: usize) {
     let outside = random.pick(&[size as u64, u64::MAX, u64::MAX - 7, 1 << 63]);
     let far = random.pick(&[outside, (size as u64).wrapping_sub(7)]);
-    match random.below(14) {
+    match random.below(15) {
         0 => code.plain(HALT),
         1 => code.jump(0, outside),
-        2 => code.bytes.push(0xc0 | random.below(64) as u8),
+        2 => code.bytes.push(0xd0 + random.below(48) as u8),
+        10 => code.bytes.push(0xc1 + random.below(15) as u8),
         3 => code.bytes.push(0x60 | (4 + random.below(12) as u8)),
         4 => code.bytes.extend([0x60, 0xf0]),
         5 => code.bytes.extend([0xa0, 0x01]),
@@ -463,7 +487,7 @@ fn stop_piece(random: &mut Random, code: &mut Code, size: usize) {
         7 | 8 => {
             code.irmovq(far, 2);
             code.write((random.pick(&[RMMOVQ, MRMOVQ]), 0), (0, 2), 0);
-            code.opq(3, 0, 0);
+            set_codes(random, code);
         }
         9 => code.bytes.extend([0x70]),
         _ => {
@@ -471,7 +495,7 @@ fn stop_piece(random: &mut Random, code: &mut Code, size: usize) {
             code.irmovq(top, RSP);
             let last = random.pick(&[PUSHQ, POPQ, CALL, RET]);
             code.write((last, 0), (0, 0), 0);
-            code.opq(3, 0, 0);
+            set_codes(random, code);
         }
     }
 }

@@ -13,7 +13,7 @@ const CLASSES: &Classes = &[
         "fetched",
         &[
             "nop", "cmovXX", "irmovq", "rmmovq", "mrmovq", "OPq", "jXX", "call", "ret", "pushq",
-            "popq", "HLT", "ADR", "INS",
+            "popq", "iaddq", "HLT", "ADR", "INS",
         ],
     ),
     ("refused for memory", &["empty", "no", "over 65536"]),

@@ -19,7 +19,7 @@ const TABLE: [(u64, u8, bool, bool); 16] = [
     (1, 1, false, false),
     (2, 1, true, false),
     (2, 1, true, false),
-    (1, 0, false, false),
+    (10, 1, false, true),
     (1, 0, false, false),
     (1, 0, false, false),
     (1, 0, false, false),
