@@ -265,6 +265,39 @@ fn iaddq_behind_a_failing_store_sets_no_codes() {
     assert_eq!(ran.machine.registers, Registers::default());
 }
 
+/// #102: the half of a register byte that names nothing is not looked at.
+#[test]
+fn fillers_are_not_looked_at() {
+    for filler in 0..16_u8 {
+        // The irmovq of source document 004 has filler 8; then iaddq $1, %rdx,
+        // pushq %rdx and popq %rbx.
+        let mut image = from_hex("30f2cdab000000000000 c0f20100000000000000 a02f b03f 00");
+        image[1] = filler << 4 | 2;
+        image[11] = filler << 4 | 2;
+        image[21] = 0x20 | filler;
+        image[23] = 0x30 | filler;
+        image.resize(48, 0);
+        let given = registers(&[(RSP, 48)]);
+        let ran = run_pipeline(&image, given);
+        let expected = registers(&[(2, 0xabce), (3, 0xabce), (RSP, 48)]);
+        assert_eq!(ran.machine.registers, expected, "filler {filler}");
+        assert_eq!((ran.machine.status, ran.machine.last), (Status::Hlt, 24));
+        assert_eq!(run_plain(&image, given).0.registers, expected);
+        // A named register of 15 is INS, whatever the filler.
+        for code in [0x30, 0xc0, 0xa0, 0xb0] {
+            let named_none = if code == 0x30 || code == 0xc0 {
+                filler << 4 | 15
+            } else {
+                0xf0 | filler
+            };
+            let mut image = vec![code, named_none];
+            image.resize(16, 0x10);
+            let ran = run_pipeline(&image, given);
+            assert_eq!((ran.machine.status, ran.machine.last), (Status::Ins, 0));
+        }
+    }
+}
+
 /// The plain log takes one address for each instruction; the rest stays.
 #[test]
 fn the_plain_log_shows_the_way() {

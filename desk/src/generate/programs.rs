@@ -34,14 +34,23 @@ struct Code {
     /// The address of the first byte.
     origin: u64,
     bytes: Vec<u8>,
+    /// What the fillers are taken from.
+    fillers: Random,
 }
 
 impl Code {
-    fn at(origin: u64) -> Code {
+    fn at(random: &mut Random, origin: u64) -> Code {
         Code {
             origin,
             bytes: Vec::new(),
+            fillers: Random::new(random.word()),
         }
+    }
+
+    /// The half of a register byte that names nothing: F, or anything else.
+    fn filler(&mut self) -> u8 {
+        let any = self.fillers.below(16) as u8;
+        self.fillers.pick(&[15, 15, 15, 0, 8, 14, any])
     }
 
     /// The address of the next instruction written.
@@ -56,8 +65,14 @@ impl Code {
         match row.register_byte {
             RegisterByte::Absent => {}
             RegisterByte::Both => self.bytes.push(ra << 4 | rb),
-            RegisterByte::OnlyB => self.bytes.push(0xf0 | rb),
-            RegisterByte::OnlyA => self.bytes.push(ra << 4 | 0x0f),
+            RegisterByte::OnlyB => {
+                let filler = self.filler();
+                self.bytes.push(filler << 4 | rb);
+            }
+            RegisterByte::OnlyA => {
+                let filler = self.filler();
+                self.bytes.push(ra << 4 | filler);
+            }
         }
         if row.length > 8 {
             self.bytes.extend(constant.to_le_bytes());
@@ -172,7 +187,7 @@ fn soup_code(random: &mut Random, size: usize, start: u64) -> (Code, Vec<u64>) {
         addresses.push(next);
         next += u64::from(row_of(*code).length);
     }
-    let mut code = Code::at(start);
+    let mut code = Code::at(random, start);
     for (place, number) in codes.iter().enumerate() {
         let function = random.below(u64::from(row_of(*number).functions)) as u8;
         let constant = match *number {
@@ -200,7 +215,7 @@ fn target(random: &mut Random, size: usize, on: &[u64], all: &[u64]) -> u64 {
 pub fn loops(random: &mut Random, size: usize) -> Program {
     let mut image = background(random, size);
     let stack = size as u64 / 8 * 8;
-    let mut code = Code::at(0);
+    let mut code = Code::at(random, 0);
     let first = code.here();
     saving_function(random, &mut code);
     let second = code.here();
@@ -288,7 +303,7 @@ pub fn ends(random: &mut Random, size: usize) -> Program {
     let end = size as u64;
     let back = 1 + random.below(40).min(end - 1);
     let origin = random.pick(&[0, end - back, end - back]);
-    let mut code = Code::at(origin);
+    let mut code = Code::at(random, origin);
     let mut earlier = RSP;
     for _ in 0..1 + random.below(6) {
         let number = random.pick(&[
@@ -344,7 +359,7 @@ pub fn large(random: &mut Random, size: usize) -> Program {
         middle + random.below(behind) - before
     };
     let origin = around(random, 60, 58).min(size as u64 - 1);
-    let mut code = Code::at(origin);
+    let mut code = Code::at(random, origin);
     code.irmovq(around(random, 12, 30), RSP);
     for _ in 0..1 + random.below(8) {
         let (named, data) = (register(random), around(random, 12, 16));
@@ -382,7 +397,7 @@ fn called_piece(random: &mut Random, code: &mut Code) {
 /// Short pieces, each with a charge, and at last one of the ways to stop.
 pub fn charges(random: &mut Random, size: usize) -> Program {
     let mut image = background(random, size);
-    let mut code = Code::at(0);
+    let mut code = Code::at(random, 0);
     let stack = size as u64 / 8 * 8;
     code.irmovq(stack, RSP);
     for _ in 0..1 + random.below(10) {
@@ -482,7 +497,7 @@ fn stop_piece(random: &mut Random, code: &mut Code, size: usize) {
         10 => code.bytes.push(0xc1 + random.below(15) as u8),
         3 => code.bytes.push(0x60 | (4 + random.below(12) as u8)),
         4 => code.bytes.extend([0x60, 0xf0]),
-        5 => code.bytes.extend([0xa0, 0x01]),
+        5 => named_none(random, code),
         6 => code.jump(0, size as u64 - 1),
         7 | 8 => {
             code.irmovq(far, 2);
@@ -500,10 +515,16 @@ fn stop_piece(random: &mut Random, code: &mut Code, size: usize) {
     }
 }
 
+/// An instruction whose named register is 15, with any filler.
+fn named_none(random: &mut Random, code: &mut Code) {
+    let number = random.pick(&[IRMOVQ, IADDQ, PUSHQ, POPQ]);
+    code.write((number, 0), (15, 15), random.word());
+}
+
 /// A program that stores into its own bytes, often just ahead of the store.
 pub fn self_modifying(random: &mut Random, size: usize) -> Program {
     let mut image = background(random, size);
-    let mut code = Code::at(0);
+    let mut code = Code::at(random, 0);
     code.irmovq(size as u64 / 8 * 8, RSP);
     for _ in 0..1 + random.below(6) {
         let behind = code.here() + 30 + random.below(36);

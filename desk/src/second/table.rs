@@ -23,9 +23,9 @@ pub enum RegisterByte {
     Absent,
     /// rA and rB are both named.
     Both,
-    /// A filler F, and rB is named.
+    /// rB is named; the other half is a filler, which is not looked at.
     OnlyB,
-    /// rA is named, and a filler F.
+    /// rA is named; the other half is a filler.
     OnlyA,
 }
 

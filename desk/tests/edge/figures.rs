@@ -111,6 +111,22 @@ fn p10_and_p11() {
     figures.iter().for_each(Figure::check);
 }
 
+/// #102: fillers other than F, with source document 004's irmovq.
+#[test]
+fn fillers() {
+    let mut image = from_hex("3082cdab000000000000 c0020100000000000000 a028 b03e 00");
+    image.resize(48, 0);
+    let figure = Figure {
+        name: "fillers 8, 0, 8 and 14",
+        image,
+        given: &[(4, 48)],
+        words: [2, 24, 0, 5, 9],
+        registers: &[(2, 0xabce), (3, 0xabce), (4, 48)],
+        memory: &[(40, 0xabce)],
+    };
+    figure.check();
+}
+
 #[test]
 fn listings() {
     let of_001 = Figure {
