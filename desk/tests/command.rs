@@ -75,7 +75,7 @@ fn the_exit_status_tells_the_outcome() {
             "AOK (1): the budget of 4000",
         ),
         ("address", "10", 2, "ADR (3)"),
-        ("instruction", "c0", 3, "INS (4)"),
+        ("instruction", "d0", 3, "INS (4)"),
     ];
     for (name, image, status, says) in cases {
         let path = file(name, &from_hex(image));

@@ -5,11 +5,12 @@ mod common;
 
 use common::{codes, pipeline, plain};
 use desk::generate::{Case, Generator, Kind};
-use desk::second::account::{Account, Kind as Charge};
+use desk::second::account::{Account, Kind as Charge, Performed};
 use desk::second::machine::Status;
 use desk::second::pipeline::{Kinds, Logs, Pipeline};
 use desk::second::plain::Plain;
 use desk::second::replay::read_registers;
+use desk::second::table::IADDQ;
 
 /// Programs of each kind that the account is tried on; of large ones a tenth.
 const PROGRAMS: usize = 6_000;
@@ -24,6 +25,29 @@ struct Seen {
     retired: u64,
     charged: [u64; 3],
     stops: [usize; 5],
+    added: Added,
+}
+
+/// The iaddq among them: how many, by -2^63, by 2^63 - 1, and charged for a
+/// load.
+#[derive(Debug, Default)]
+struct Added {
+    performed: usize,
+    least: usize,
+    most: usize,
+    charged: usize,
+}
+
+impl Added {
+    fn count(&mut self, performed: &Performed) {
+        let Some(parts) = performed.parts.filter(|parts| parts.code == IADDQ) else {
+            return;
+        };
+        self.performed += 1;
+        self.least += usize::from(parts.constant == 1 << 63);
+        self.most += usize::from(parts.constant == (1 << 63) - 1);
+        self.charged += usize::from(performed.charge == Some(Charge::LoadUse));
+    }
 }
 
 /// The plain engine, brought along instruction by instruction.
@@ -69,6 +93,17 @@ fn the_pipeline_meets_the_account() {
         if kind != Kind::RandomBytes {
             assert!(seen.charged.iter().all(|cycles| *cycles > 20));
         }
+        if let Kind::Soup | Kind::Charges = kind {
+            let Added {
+                performed,
+                least,
+                most,
+                charged,
+            } = seen.added;
+            assert!([performed, least, most, charged]
+                .iter()
+                .all(|count| *count > 20));
+        }
     }
 }
 
@@ -102,6 +137,9 @@ fn compare(case: &Case, seen: &mut Seen) {
     seen.whole += usize::from(over);
     seen.cut += usize::from(!over);
     seen.retired += machine.retired;
+    account.performed[..reach]
+        .iter()
+        .for_each(|performed| seen.added.count(performed));
     let kinds = machine.kinds;
     let charged = [kinds.load_use, kinds.mispredict, kinds.returns];
     for (sum, cycles) in seen.charged.iter_mut().zip(charged) {

@@ -13,13 +13,15 @@ use desk::second::{y86run, Status, RSP};
 
 const LEAST: u64 = 1 << 63;
 
-/// P1 to P6: image, status, last address, retired, cycles.
+/// P1 to P6, with #101's `c0`: image, status, last address, retired, cycles.
 #[test]
 fn p1_to_p6_stop_as_stated() {
     let cases = [
         ("00", Status::Hlt, 0, 1, 5),
         ("10", Status::Adr, 1, 2, 6),
-        ("c0", Status::Ins, 0, 1, 5),
+        ("d0", Status::Ins, 0, 1, 5),
+        ("c0", Status::Adr, 0, 1, 5),
+        ("c1", Status::Ins, 0, 1, 5),
         ("64", Status::Ins, 0, 1, 5),
         ("60", Status::Adr, 0, 1, 5),
         ("60f0", Status::Ins, 0, 1, 5),
@@ -208,6 +210,94 @@ fn the_program_writes_the_stated_text() {
     assert!(y86run(&endless).contains("cycles\t4000\n"));
 }
 
+/// #101: iaddq adds its constant to rB and sets the codes as addq does.
+#[test]
+fn iaddq_is_addq_of_a_constant() {
+    let ends = [0, 1, 7, u64::MAX, LEAST, LEAST - 1, LEAST + 1];
+    for constant in ends {
+        for given in ends {
+            let mut image = from_hex("c0f3");
+            image.extend(constant.to_le_bytes());
+            image.push(0);
+            let given = registers(&[(3, given)]);
+            let ran = run_pipeline(&image, given);
+            let (plain, _) = run_plain(&image, given);
+            let expected = operate(0, constant, given.get(3));
+            let [machine, plain] = [
+                (ran.machine.registers.get(3), ran.machine.codes),
+                (plain.registers.get(3), plain.codes),
+            ];
+            assert_eq!([machine, plain], [expected; 2], "{constant:x} {given:?}");
+            assert_eq!((ran.machine.status, ran.machine.last), (Status::Hlt, 10));
+        }
+    }
+}
+
+/// #101: its source is rB, so that it waits for a load of it, and only that.
+#[test]
+fn iaddq_is_charged_behind_a_load_of_its_register() {
+    for (code, charged) in [("b03f c0f3", 1), ("b02f c0f3", 0), ("b03f c0f2", 0)] {
+        let mut image = from_hex(code);
+        image.extend([5, 0, 0, 0, 0, 0, 0, 0, 0x00, 0]);
+        image.extend(40_u64.to_le_bytes());
+        let ran = run_pipeline(&image, registers(&[(RSP, 14)]));
+        assert_eq!(
+            (ran.machine.status, ran.kinds()),
+            (Status::Hlt, (charged, 0, 0))
+        );
+        assert_eq!(ran.machine.cycles, 7 + charged, "{code}");
+        let sum = if charged == 1 { 45 } else { 5 };
+        let target = usize::from(image[3] & 15);
+        assert_eq!(ran.machine.registers.0[target], sum, "{code}");
+    }
+}
+
+/// #101: nothing behind a bad status sets codes, iaddq included.
+#[test]
+fn iaddq_behind_a_failing_store_sets_no_codes() {
+    // rmmovq %rax, (%rcx), outside; iaddq $1, %rbx
+    let image = from_hex("4001ffffffffffffffff c0f30100000000000000 10");
+    let ran = run_pipeline(&image, Registers::default());
+    assert_eq!(
+        (ran.machine.status, ran.machine.codes.number()),
+        (Status::Adr, 4)
+    );
+    assert_eq!(ran.machine.registers, Registers::default());
+}
+
+/// #102: the half of a register byte that names nothing is not looked at.
+#[test]
+fn fillers_are_not_looked_at() {
+    for filler in 0..16_u8 {
+        // The irmovq of source document 004 has filler 8; then iaddq $1, %rdx,
+        // pushq %rdx and popq %rbx.
+        let mut image = from_hex("30f2cdab000000000000 c0f20100000000000000 a02f b03f 00");
+        image[1] = filler << 4 | 2;
+        image[11] = filler << 4 | 2;
+        image[21] = 0x20 | filler;
+        image[23] = 0x30 | filler;
+        image.resize(48, 0);
+        let given = registers(&[(RSP, 48)]);
+        let ran = run_pipeline(&image, given);
+        let expected = registers(&[(2, 0xabce), (3, 0xabce), (RSP, 48)]);
+        assert_eq!(ran.machine.registers, expected, "filler {filler}");
+        assert_eq!((ran.machine.status, ran.machine.last), (Status::Hlt, 24));
+        assert_eq!(run_plain(&image, given).0.registers, expected);
+        // A named register of 15 is INS, whatever the filler.
+        for code in [0x30, 0xc0, 0xa0, 0xb0] {
+            let named_none = if code == 0x30 || code == 0xc0 {
+                filler << 4 | 15
+            } else {
+                0xf0 | filler
+            };
+            let mut image = vec![code, named_none];
+            image.resize(16, 0x10);
+            let ran = run_pipeline(&image, given);
+            assert_eq!((ran.machine.status, ran.machine.last), (Status::Ins, 0));
+        }
+    }
+}
+
 /// The plain log takes one address for each instruction; the rest stays.
 #[test]
 fn the_plain_log_shows_the_way() {
@@ -248,7 +338,7 @@ fn stopped_machines_stay_as_they_are() {
 #[test]
 fn reading_5_stopping_followers_are_charged() {
     // jne not taken (ZF is 1), then INS at 9.
-    let ran = run_pipeline(&from_hex("740000000000000000 c0"), Registers::default());
+    let ran = run_pipeline(&from_hex("740000000000000000 d0"), Registers::default());
     assert_eq!((ran.kinds(), ran.machine.status), ((0, 2, 0), Status::Ins));
     assert_eq!(ran.cycles, [5, 8]);
     // ret to an address outside.
@@ -257,7 +347,7 @@ fn reading_5_stopping_followers_are_charged() {
     assert_eq!((ran.kinds(), ran.machine.last), ((0, 0, 3), 0xff));
     assert_eq!(ran.cycles, [5, 9]);
     // A load, and a bad fetch behind it.
-    let mut image = from_hex("b00f c0");
+    let mut image = from_hex("b00f d0");
     image.resize(16, 0);
     let ran = run_pipeline(&image, Registers::default());
     assert_eq!((ran.kinds(), ran.machine.status), ((0, 0, 0), Status::Ins));

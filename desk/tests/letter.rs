@@ -6,12 +6,13 @@ mod common;
 use common::tally::{Classes, Tally};
 use common::{codes, pipeline};
 use desk::generate::{Call, Calls, Origin, Way};
+use desk::second::fetch::{fetch, Parts};
 use desk::second::letter;
 use desk::second::machine::{Refusal, Registers, Status};
 use desk::second::pipeline::{Logs, Pipeline};
 use desk::second::plain::Plain;
 use desk::second::stages::{Accessing, Decoding, Executing, Instruction, Writing};
-use desk::second::table::row_of;
+use desk::second::table::{row_of, IADDQ, IRMOVQ, POPQ, PUSHQ};
 
 /// How many calls of each engine are compared; unoptimised code gets fewer.
 const CALLS: u64 = if cfg!(debug_assertions) {
@@ -205,6 +206,45 @@ fn written(w: &letter::Accessed) -> Instruction {
     match w.status == w.instruction.status {
         true => decided,
         false => decided.outside(),
+    }
+}
+
+/// How often each filler was fetched with AOK, the fast way and by the letter.
+#[test]
+fn fetches_are_the_letters_equal() {
+    let mut calls = Calls::new(0xfe7c);
+    let mut fillers = [0; 16];
+    for number in 0..CALLS {
+        let (memory, address) = calls.fetch();
+        let (Ok(()), expected) = letter::fetch_open(&memory, address) else {
+            continue;
+        };
+        let fast = fetch(&memory, address);
+        assert_eq!(fast, by_the_letter(&expected), "call {number}");
+        if let Ok(Parts { code, .. }) = fast {
+            let halves = memory.get(address as usize + 1);
+            match (code, halves) {
+                (IRMOVQ | IADDQ, Some(halves)) => fillers[usize::from(halves >> 4)] += 1,
+                (PUSHQ | POPQ, Some(halves)) => fillers[usize::from(halves & 15)] += 1,
+                _ => {}
+            }
+        }
+    }
+    println!("compared {CALLS} fetches; fillers from 0 to 15: {fillers:?}");
+    assert!(fillers.iter().all(|count| *count > 0));
+}
+
+/// What the fast fetch answers where the letter has this.
+fn by_the_letter(fetched: &letter::Instruction) -> Result<Parts, Status> {
+    match fetched.status {
+        Status::Aok => Ok(Parts {
+            code: fetched.code,
+            function: fetched.function,
+            ra: fetched.ra,
+            rb: fetched.rb,
+            constant: fetched.constant,
+        }),
+        status => Err(status),
     }
 }
 

@@ -166,7 +166,7 @@ fn records_are_refused_for_what_they_hold() {
     let make =
         |code, function, ra, rb| Instruction::new(0, (code, function), (ra, rb), Status::Aok);
     let refused = [
-        make(12, 0, 15, 15),
+        make(13, 0, 15, 15),
         make(255, 0, 15, 15),
         make(2, 7, 0, 0),
         make(7, 7, 15, 15),
@@ -178,6 +178,7 @@ fn records_are_refused_for_what_they_hold() {
     let allowed = [
         make(0, 9, 15, 15),
         make(11, 200, 15, 15),
+        make(12, 200, 15, 15),
         make(2, 6, 15, 15),
         make(7, 6, 15, 15),
         make(6, 3, 15, 15),

@@ -6,6 +6,7 @@ use super::{outside, refused_memory, Generator, Random};
 use crate::second::arithmetic::Codes;
 use crate::second::machine::{Registers, MEMORY_LIMIT, PROGRAM_LIMIT};
 use crate::second::replay::read_registers;
+use crate::second::table::row_of;
 
 /// What is lent and given to one call, and, after it, what it left.
 #[derive(Clone, Debug, PartialEq, Eq)]
@@ -152,8 +153,26 @@ impl Calls {
             2 => start,
             _ => far % (size + 1),
         };
+        if random.chance(1, 2) {
+            lay_instruction(random, &mut memory, address);
+        }
         (memory, address)
     }
+}
+
+/// Puts the first two bytes of an instruction at an address, as far as they
+/// are inside: of any code, with a function that is mostly in the table, and
+/// with registers or fillers that are often 15.
+fn lay_instruction(random: &mut Random, memory: &mut [u8], address: u64) {
+    let code = random.below(16) as u8;
+    let known = u64::from(row_of(code).functions.max(1));
+    let functions = random.pick(&[known, known, known, 16]);
+    let function = random.below(functions) as u8;
+    let any = random.below(16) as u8;
+    let mut half = || random.pick(&[0, 8, 14, 15, 15, any]);
+    let bytes = [code << 4 | function, half() << 4 | half()];
+    let places = memory.iter_mut().skip(address as usize);
+    places.zip(bytes).for_each(|(place, byte)| *place = byte);
 }
 
 /// The codes of any number.

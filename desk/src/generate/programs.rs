@@ -3,7 +3,8 @@
 use super::Random;
 use crate::second::machine::{MEMORY_LIMIT, PROGRAM_LIMIT};
 use crate::second::table::{
-    row_of, RegisterByte, CALL, CMOV, HALT, IRMOVQ, JXX, MRMOVQ, NOP, OPQ, POPQ, PUSHQ, RET, RMMOVQ,
+    row_of, RegisterByte, CALL, CMOV, HALT, IADDQ, IRMOVQ, JXX, MRMOVQ, NOP, OPQ, POPQ, PUSHQ, RET,
+    RMMOVQ,
 };
 use crate::second::{REGISTER_COUNT, RSP};
 
@@ -15,9 +16,9 @@ pub struct Program {
 }
 
 /// Codes in the frequency in which a soup holds them.
-const SOUP: [u8; 24] = [
+const SOUP: [u8; 26] = [
     NOP, CMOV, CMOV, IRMOVQ, IRMOVQ, IRMOVQ, RMMOVQ, RMMOVQ, MRMOVQ, MRMOVQ, MRMOVQ, OPQ, OPQ, OPQ,
-    OPQ, JXX, JXX, CALL, RET, PUSHQ, PUSHQ, POPQ, POPQ, POPQ,
+    OPQ, JXX, JXX, CALL, RET, PUSHQ, PUSHQ, POPQ, POPQ, POPQ, IADDQ, IADDQ,
 ];
 
 /// Bytes that make short instructions in almost any order.
@@ -26,21 +27,30 @@ const LEANING: [u8; 16] = [
 ];
 
 /// Codes of a straight line, which leaves rsp and the program address alone.
-const LINE: [u8; 8] = [NOP, CMOV, IRMOVQ, OPQ, OPQ, OPQ, RMMOVQ, MRMOVQ];
+const LINE: [u8; 9] = [NOP, CMOV, IRMOVQ, IADDQ, OPQ, OPQ, OPQ, RMMOVQ, MRMOVQ];
 
 /// Code being written, instruction after instruction.
 struct Code {
     /// The address of the first byte.
     origin: u64,
     bytes: Vec<u8>,
+    /// What the fillers are taken from.
+    fillers: Random,
 }
 
 impl Code {
-    fn at(origin: u64) -> Code {
+    fn at(random: &mut Random, origin: u64) -> Code {
         Code {
             origin,
             bytes: Vec::new(),
+            fillers: Random::new(random.word()),
         }
+    }
+
+    /// The half of a register byte that names nothing: F, or anything else.
+    fn filler(&mut self) -> u8 {
+        let any = self.fillers.below(16) as u8;
+        self.fillers.pick(&[15, 15, 15, 0, 8, 14, any])
     }
 
     /// The address of the next instruction written.
@@ -55,8 +65,14 @@ impl Code {
         match row.register_byte {
             RegisterByte::Absent => {}
             RegisterByte::Both => self.bytes.push(ra << 4 | rb),
-            RegisterByte::OnlyB => self.bytes.push(0xf0 | rb),
-            RegisterByte::OnlyA => self.bytes.push(ra << 4 | 0x0f),
+            RegisterByte::OnlyB => {
+                let filler = self.filler();
+                self.bytes.push(filler << 4 | rb);
+            }
+            RegisterByte::OnlyA => {
+                let filler = self.filler();
+                self.bytes.push(ra << 4 | filler);
+            }
         }
         if row.length > 8 {
             self.bytes.extend(constant.to_le_bytes());
@@ -65,6 +81,10 @@ impl Code {
 
     fn irmovq(&mut self, constant: u64, rb: u8) {
         self.write((IRMOVQ, 0), (0, rb), constant);
+    }
+
+    fn iaddq(&mut self, constant: u64, rb: u8) {
+        self.write((IADDQ, 0), (0, rb), constant);
     }
 
     fn opq(&mut self, function: u8, ra: u8, rb: u8) {
@@ -167,12 +187,13 @@ fn soup_code(random: &mut Random, size: usize, start: u64) -> (Code, Vec<u64>) {
         addresses.push(next);
         next += u64::from(row_of(*code).length);
     }
-    let mut code = Code::at(start);
+    let mut code = Code::at(random, start);
     for (place, number) in codes.iter().enumerate() {
         let function = random.below(u64::from(row_of(*number).functions)) as u8;
         let constant = match *number {
             JXX | CALL => target(random, size, &addresses[place..], &addresses),
             RMMOVQ | MRMOVQ if random.chance(3, 4) => random.below(64),
+            IADDQ => addend(random),
             _ => value(random, size),
         };
         let named = (register(random), register(random));
@@ -194,7 +215,7 @@ fn target(random: &mut Random, size: usize, on: &[u64], all: &[u64]) -> u64 {
 pub fn loops(random: &mut Random, size: usize) -> Program {
     let mut image = background(random, size);
     let stack = size as u64 / 8 * 8;
-    let mut code = Code::at(0);
+    let mut code = Code::at(random, 0);
     let first = code.here();
     saving_function(random, &mut code);
     let second = code.here();
@@ -282,10 +303,12 @@ pub fn ends(random: &mut Random, size: usize) -> Program {
     let end = size as u64;
     let back = 1 + random.below(40).min(end - 1);
     let origin = random.pick(&[0, end - back, end - back]);
-    let mut code = Code::at(origin);
+    let mut code = Code::at(random, origin);
     let mut earlier = RSP;
     for _ in 0..1 + random.below(6) {
-        let number = random.pick(&[IRMOVQ, RMMOVQ, MRMOVQ, PUSHQ, POPQ, CALL, RET, JXX, OPQ]);
+        let number = random.pick(&[
+            IRMOVQ, RMMOVQ, MRMOVQ, PUSHQ, POPQ, CALL, RET, JXX, OPQ, IADDQ,
+        ]);
         let function = random.below(u64::from(row_of(number).functions)) as u8;
         // What the one before it may have loaded is often used.
         let rb = register(random);
@@ -336,7 +359,7 @@ pub fn large(random: &mut Random, size: usize) -> Program {
         middle + random.below(behind) - before
     };
     let origin = around(random, 60, 58).min(size as u64 - 1);
-    let mut code = Code::at(origin);
+    let mut code = Code::at(random, origin);
     code.irmovq(around(random, 12, 30), RSP);
     for _ in 0..1 + random.below(8) {
         let (named, data) = (register(random), around(random, 12, 16));
@@ -374,7 +397,7 @@ fn called_piece(random: &mut Random, code: &mut Code) {
 /// Short pieces, each with a charge, and at last one of the ways to stop.
 pub fn charges(random: &mut Random, size: usize) -> Program {
     let mut image = background(random, size);
-    let mut code = Code::at(0);
+    let mut code = Code::at(random, 0);
     let stack = size as u64 / 8 * 8;
     code.irmovq(stack, RSP);
     for _ in 0..1 + random.below(10) {
@@ -409,9 +432,10 @@ fn load_and_use(random: &mut Random, code: &mut Code, size: usize) {
         code.plain(NOP);
     }
     let function = random.below(4) as u8;
-    match random.below(6) {
+    match random.below(7) {
         0 => code.opq(function, loaded, other),
         1 => code.opq(function, other, loaded),
+        6 => code.iaddq(addend(random), random.pick(&[loaded, loaded, other])),
         2 => code.write((CMOV, random.below(7) as u8), (loaded, other), 0),
         3 => code.write((MRMOVQ, 0), (other, loaded), at),
         4 => code.pushq(loaded),
@@ -419,12 +443,26 @@ fn load_and_use(random: &mut Random, code: &mut Code, size: usize) {
     }
 }
 
+/// One of the instructions that set the codes.
+fn set_codes(random: &mut Random, code: &mut Code) {
+    match random.below(3) {
+        0 => code.iaddq(addend(random), register(random)),
+        _ => code.opq(random.below(4) as u8, register(random), register(random)),
+    }
+}
+
+/// A constant for iaddq: often an end of the signed numbers, or a small step.
+fn addend(random: &mut Random) -> u64 {
+    let (any, few) = (random.word(), random.below(17).wrapping_sub(8));
+    random.pick(&[1 << 63, (1 << 63) - 1, few, few, any])
+}
+
 /// A jump over one instruction, behind one that sets the codes or not.
 fn jump_piece(random: &mut Random, code: &mut Code) {
     if random.chance(2, 3) {
-        code.opq(random.below(4) as u8, register(random), register(random));
+        set_codes(random, code);
     }
-    let skipped = random.pick(&[HALT, NOP, RET, 0xc]);
+    let skipped = random.pick(&[HALT, NOP, RET, 0xd]);
     let target = code.here() + 9 + 1;
     code.jump(random.below(7) as u8, target);
     code.plain(skipped);
@@ -452,18 +490,19 @@ fn return_piece(random: &mut Random, code: &mut Code) {
 fn stop_piece(random: &mut Random, code: &mut Code, size: usize) {
     let outside = random.pick(&[size as u64, u64::MAX, u64::MAX - 7, 1 << 63]);
     let far = random.pick(&[outside, (size as u64).wrapping_sub(7)]);
-    match random.below(14) {
+    match random.below(15) {
         0 => code.plain(HALT),
         1 => code.jump(0, outside),
-        2 => code.bytes.push(0xc0 | random.below(64) as u8),
+        2 => code.bytes.push(0xd0 + random.below(48) as u8),
+        10 => code.bytes.push(0xc1 + random.below(15) as u8),
         3 => code.bytes.push(0x60 | (4 + random.below(12) as u8)),
         4 => code.bytes.extend([0x60, 0xf0]),
-        5 => code.bytes.extend([0xa0, 0x01]),
+        5 => named_none(random, code),
         6 => code.jump(0, size as u64 - 1),
         7 | 8 => {
             code.irmovq(far, 2);
             code.write((random.pick(&[RMMOVQ, MRMOVQ]), 0), (0, 2), 0);
-            code.opq(3, 0, 0);
+            set_codes(random, code);
         }
         9 => code.bytes.extend([0x70]),
         _ => {
@@ -471,15 +510,21 @@ fn stop_piece(random: &mut Random, code: &mut Code, size: usize) {
             code.irmovq(top, RSP);
             let last = random.pick(&[PUSHQ, POPQ, CALL, RET]);
             code.write((last, 0), (0, 0), 0);
-            code.opq(3, 0, 0);
+            set_codes(random, code);
         }
     }
+}
+
+/// An instruction whose named register is 15, with any filler.
+fn named_none(random: &mut Random, code: &mut Code) {
+    let number = random.pick(&[IRMOVQ, IADDQ, PUSHQ, POPQ]);
+    code.write((number, 0), (15, 15), random.word());
 }
 
 /// A program that stores into its own bytes, often just ahead of the store.
 pub fn self_modifying(random: &mut Random, size: usize) -> Program {
     let mut image = background(random, size);
-    let mut code = Code::at(0);
+    let mut code = Code::at(random, 0);
     code.irmovq(size as u64 / 8 * 8, RSP);
     for _ in 0..1 + random.below(6) {
         let behind = code.here() + 30 + random.below(36);

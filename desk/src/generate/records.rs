@@ -6,7 +6,7 @@ use crate::second::arithmetic::Codes;
 use crate::second::letter::{Accessed, Decoded, Executed, Instruction, Machine, Pipeline, Retired};
 use crate::second::machine::{Registers, Status, CYCLE_LIMIT, PLAIN_LIMIT, REGISTER_COUNT};
 use crate::second::pipeline::Kinds;
-use crate::second::table::{CMOV, JXX, OPQ, POPQ};
+use crate::second::table::{CMOV, IADDQ, JXX, OPQ};
 use std::fmt::Debug;
 
 /// A record of one of the two engines.
@@ -219,7 +219,7 @@ fn register(random: &mut Random) -> u8 {
 
 /// An instruction that a record may hold.
 fn instruction(random: &mut Random, size: usize) -> Instruction {
-    let code = random.below(u64::from(POPQ) + 1) as u8;
+    let code = random.below(u64::from(IADDQ) + 1) as u8;
     Instruction {
         address: value(random, size),
         status: status(random, 7, 8),
@@ -248,7 +248,7 @@ fn refused_instruction(random: &mut Random, size: usize) -> Instruction {
     match random.below(4) {
         0 => spoilt.ra = register,
         1 => spoilt.rb = register,
-        2 => spoilt.code = random.pick(&[12, 13, 15, 16, 18, 255]),
+        2 => spoilt.code = random.pick(&[13, 14, 15, 16, 18, 255]),
         _ => {
             spoilt.code = random.pick(&[CMOV, JXX, OPQ]);
             let first = functions(spoilt.code) as u8;

@@ -7,7 +7,7 @@
 use super::fetch::{fetch, own_bytes, Parts};
 use super::machine::{Status, NONE, RSP};
 use super::plain::Plain;
-use super::table::{CALL, CMOV, JXX, MRMOVQ, OPQ, POPQ, PUSHQ, RET, RMMOVQ};
+use super::table::{CALL, CMOV, IADDQ, JXX, MRMOVQ, OPQ, POPQ, PUSHQ, RET, RMMOVQ};
 use std::ops::Range;
 
 /// Why an instruction is charged.
@@ -33,6 +33,8 @@ impl Kind {
 #[derive(Clone, Debug, PartialEq, Eq)]
 pub struct Performed {
     pub address: u64,
+    /// What was fetched, if its status was AOK.
+    pub parts: Option<Parts>,
     /// What the instruction is charged for, by its predecessor.
     pub charge: Option<Kind>,
     /// The cycle in which it is due to retire: k + 4 and the charges of 1 to k.
@@ -90,6 +92,7 @@ impl Account {
         let earlier = previous.map_or(4, |previous| previous.due);
         Performed {
             address: before.address,
+            parts,
             charge,
             due: earlier + 1 + charge.map_or(0, Kind::cycles),
             own_bytes,
@@ -152,7 +155,7 @@ fn sources(parts: &Parts) -> [u8; 2] {
     match parts.code {
         CMOV => [parts.ra, NONE],
         RMMOVQ | OPQ => [parts.ra, parts.rb],
-        MRMOVQ => [parts.rb, NONE],
+        MRMOVQ | IADDQ => [parts.rb, NONE],
         PUSHQ => [parts.ra, RSP],
         POPQ | CALL | RET => [RSP, NONE],
         _ => [NONE, NONE],

@@ -73,6 +73,9 @@ const fn decide(function: u8, codes: Codes) -> bool {
     }
 }
 
+/// The function of addq, which iaddq computes whatever its own is (#101).
+pub const ADD: u8 = 0;
+
 /// B add, subtract, and, xor A by function 0 to 3, with the codes it sets.
 #[inline(always)]
 pub fn operate(function: u8, a: u64, b: u64) -> (u64, Codes) {

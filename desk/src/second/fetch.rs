@@ -43,24 +43,18 @@ pub fn fetch(memory: &[u8], address: u64) -> Result<Parts, Status> {
     })
 }
 
-/// The register numbers, or INS where a named one is 15 or a filler is not.
+/// The register numbers, or INS where a named one is 15. A half that is not
+/// named is not looked at (#102).
 #[inline(always)]
 fn registers(bytes: &[u8], rule: RegisterByte) -> Result<(u8, u8), Status> {
-    if rule == RegisterByte::Absent {
-        return Ok((NONE, NONE));
-    }
     let byte = bytes.get(1).copied().unwrap_or(0);
     let (ra, rb) = (byte >> 4, byte & 15);
-    let found = match (ra == NONE, rb == NONE) {
-        (false, false) => RegisterByte::Both,
-        (true, false) => RegisterByte::OnlyB,
-        (false, true) => RegisterByte::OnlyA,
-        (true, true) => return Err(Status::Ins),
-    };
-    if found == rule {
-        Ok((ra, rb))
-    } else {
-        Err(Status::Ins)
+    match rule {
+        RegisterByte::Absent => Ok((NONE, NONE)),
+        RegisterByte::Both if ra != NONE && rb != NONE => Ok((ra, rb)),
+        RegisterByte::OnlyB if rb != NONE => Ok((NONE, rb)),
+        RegisterByte::OnlyA if ra != NONE => Ok((ra, NONE)),
+        _ => Err(Status::Ins),
     }
 }
 

@@ -1,10 +1,10 @@
 //! The clock: what one cycle does to a running pipeline.
 
-use super::arithmetic::{operate, Codes};
+use super::arithmetic::{operate, Codes, ADD};
 use super::machine::{Registers, Status, NONE};
 use super::pipeline::{Kinds, Pipeline};
 use super::stages::{fetch_stage, Accessing, Decoding, Executing, Instruction, Writing};
-use super::table::{CALL, CMOV, IRMOVQ, JXX, MRMOVQ, OPQ, POPQ, PUSHQ, RET, RMMOVQ};
+use super::table::{CALL, CMOV, IADDQ, IRMOVQ, JXX, MRMOVQ, OPQ, POPQ, PUSHQ, RET, RMMOVQ};
 use super::word;
 
 /// The working copy of a pipelined record, for the length of a run. A stage
@@ -202,7 +202,7 @@ fn forward(source: u8, executed: &Accessing, accessed: &Writing, registers: &Reg
 }
 
 /// The work of E, with the codes after it. Conditions read the codes as the
-/// clock began; only OPq sets them.
+/// clock began; only OPq and iaddq set them.
 #[inline(always)]
 fn execute(stage: &Executing, codes: Codes) -> (Accessing, Codes) {
     let mut instruction = stage.instruction;
@@ -212,6 +212,10 @@ fn execute(stage: &Executing, codes: Codes) -> (Accessing, Codes) {
         stage
             .instruction
             .decided(codes.condition(stage.instruction.function()))
+    };
+    let mut setting = |(result, set)| {
+        codes_after = set;
+        result
     };
     let result = match instruction.code() {
         CMOV => {
@@ -224,11 +228,8 @@ fn execute(stage: &Executing, codes: Codes) -> (Accessing, Codes) {
         }
         IRMOVQ => constant,
         RMMOVQ | MRMOVQ => b.wrapping_add(constant),
-        OPQ => {
-            let (result, set) = operate(instruction.function(), a, b);
-            codes_after = set;
-            result
-        }
+        OPQ => setting(operate(instruction.function(), a, b)),
+        IADDQ => setting(operate(ADD, constant, b)),
         CALL | PUSHQ => b.wrapping_sub(8),
         RET | POPQ => b.wrapping_add(8),
         _ => 0,

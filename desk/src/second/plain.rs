@@ -1,12 +1,12 @@
 //! The plain engine: one instruction after the other.
 
-use super::arithmetic::{operate, Codes};
+use super::arithmetic::{operate, Codes, ADD};
 use super::fetch::{fetch, Parts};
 use super::machine::{
     check_budget, check_log, check_memory, check_start, Refusal, Registers, Status, PLAIN_LIMIT,
     RSP,
 };
-use super::table::{row_of, CALL, CMOV, IRMOVQ, JXX, MRMOVQ, OPQ, POPQ, PUSHQ, RET, RMMOVQ};
+use super::table::{row_of, CALL, CMOV, IADDQ, IRMOVQ, JXX, MRMOVQ, OPQ, POPQ, PUSHQ, RET, RMMOVQ};
 use super::word;
 
 /// The plain machine's record; its memory is lent at each call.
@@ -101,11 +101,8 @@ impl Plain {
                 let loaded = load(memory, b.wrapping_add(constant))?;
                 self.registers.set(ra, loaded);
             }
-            OPQ => {
-                let (result, codes) = operate(parts.function, a, b);
-                self.registers.set(rb, result);
-                self.codes = codes;
-            }
+            OPQ => self.compute(rb, operate(parts.function, a, b)),
+            IADDQ => self.compute(rb, operate(ADD, constant, b)),
             JXX if self.codes.condition(parts.function) => return Ok(constant),
             CALL => {
                 self.push(memory, next)?;
@@ -120,6 +117,12 @@ impl Plain {
             _ => {}
         }
         Ok(next)
+    }
+
+    /// Takes a result and the codes that it sets.
+    fn compute(&mut self, target: u8, (result, codes): (u64, Codes)) {
+        self.registers.set(target, result);
+        self.codes = codes;
     }
 
     /// Stores a word below the top of the stack, then lowers rsp.

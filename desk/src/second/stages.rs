@@ -2,7 +2,7 @@
 
 use super::fetch::fetch;
 use super::machine::{Status, NONE};
-use super::table::{roles, row_of, CALL, CMOV, JXX, NOP, OPQ, POPQ};
+use super::table::{roles, row_of, CALL, CMOV, IADDQ, JXX, NOP, OPQ};
 use std::fmt;
 
 /// An instruction with its own address, as the stages carry it, or a bubble.
@@ -183,7 +183,7 @@ impl Instruction {
             CMOV | JXX | OPQ => self.function() < row_of(self.code()).functions,
             _ => true,
         };
-        self.code() <= POPQ && function_fits && registers.iter().all(|number| *number <= NONE)
+        self.code() <= IADDQ && function_fits && registers.iter().all(|number| *number <= NONE)
     }
 }
 

@@ -14,6 +14,7 @@ pub const CALL: u8 = 0x8;
 pub const RET: u8 = 0x9;
 pub const PUSHQ: u8 = 0xa;
 pub const POPQ: u8 = 0xb;
+pub const IADDQ: u8 = 0xc;
 
 /// What the register byte of an instruction has to say.
 #[derive(Clone, Copy, Debug, PartialEq, Eq)]
@@ -22,9 +23,9 @@ pub enum RegisterByte {
     Absent,
     /// rA and rB are both named.
     Both,
-    /// A filler F, and rB is named.
+    /// rB is named; the other half is a filler, which is not looked at.
     OnlyB,
-    /// rA is named, and a filler F.
+    /// rA is named; the other half is a filler.
     OnlyA,
 }
 
@@ -60,7 +61,7 @@ pub static TABLE: [Row; 16] = [
     row(1, 1, RegisterByte::Absent), // ret
     row(2, 1, RegisterByte::OnlyA),  // pushq
     row(2, 1, RegisterByte::OnlyA),  // popq
-    row(1, 0, RegisterByte::Absent),
+    row(10, 1, RegisterByte::OnlyB), // iaddq (#101)
     row(1, 0, RegisterByte::Absent),
     row(1, 0, RegisterByte::Absent),
     row(1, 0, RegisterByte::Absent),
@@ -89,7 +90,7 @@ static ROLES: [RoleRow; 16] = {
         role_row([Rsp, Rsp, Rsp, No]), // ret
         role_row([A, Rsp, Rsp, No]),   // pushq
         role_row([Rsp, Rsp, Rsp, A]),  // popq
-        role_row([No, No, No, No]),
+        role_row([No, B, B, No]),      // iaddq
         role_row([No, No, No, No]),
         role_row([No, No, No, No]),
         role_row([No, No, No, No]),

@@ -109,9 +109,9 @@ const CLASSES: &Classes = &[
     ("result block", &BLOCKS),
 ];
 
-const INSTRUCTIONS: [&str; 12] = [
+const INSTRUCTIONS: [&str; 13] = [
     "none", "nop", "cmovXX", "irmovq", "rmmovq", "mrmovq", "OPq", "jXX", "call", "ret", "pushq",
-    "popq",
+    "popq", "iaddq",
 ];
 
 /// How often each class occurred, and each size.

@@ -52,7 +52,8 @@ fn p1_to_p6() {
     let cases = [
         ("P1", "00", [2, 0, 4, 1, 5]),
         ("P2", "10", [3, 1, 4, 2, 6]),
-        ("P3", "c0", [4, 0, 4, 1, 5]),
+        ("P3", "d0", [4, 0, 4, 1, 5]),
+        ("a lone c0", "c0", [3, 0, 4, 1, 5]),
         ("P4", "64", [4, 0, 4, 1, 5]),
         ("P5", "60", [3, 0, 4, 1, 5]),
         ("P6", "60f0", [4, 0, 4, 1, 5]),
@@ -108,6 +109,22 @@ fn p10_and_p11() {
         },
     ];
     figures.iter().for_each(Figure::check);
+}
+
+/// #102: fillers other than F, with source document 004's irmovq.
+#[test]
+fn fillers() {
+    let mut image = from_hex("3082cdab000000000000 c0020100000000000000 a028 b03e 00");
+    image.resize(48, 0);
+    let figure = Figure {
+        name: "fillers 8, 0, 8 and 14",
+        image,
+        given: &[(4, 48)],
+        words: [2, 24, 0, 5, 9],
+        registers: &[(2, 0xabce), (3, 0xabce), (4, 48)],
+        memory: &[(40, 0xabce)],
+    };
+    figure.check();
 }
 
 #[test]

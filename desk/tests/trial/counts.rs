@@ -5,7 +5,7 @@ use crate::entries::Engine;
 use desk::generate::{Call, Origin};
 use desk::second::letter::{Instruction, Machine, Pipeline};
 use desk::second::machine::{Refusal, Status};
-use desk::second::table::{CALL, CMOV, JXX, OPQ, RET};
+use desk::second::table::{CALL, CMOV, IADDQ, JXX, OPQ, RET};
 
 const ORIGINS: [&str; 3] = ["fresh", "reached", "hand-made"];
 const STATUSES: [&str; 4] = ["AOK", "HLT", "ADR", "INS"];
@@ -23,9 +23,9 @@ const ADDRESSES: [&str; 2] = ["inside", "outside"];
 const START_REASONS: [&str; 4] = ["nothing", "1", "6", "1+6"];
 const LIMITS: [&str; 2] = ["not reached", "reached"];
 const LOGS: [&str; 3] = ["as long as the budget", "longer", "shorter"];
-const HELD: [&str; 13] = [
+const HELD: [&str; 14] = [
     "halt", "nop", "cmovXX", "irmovq", "rmmovq", "mrmovq", "OPq", "jXX", "call", "ret", "pushq",
-    "popq", "bubble",
+    "popq", "iaddq", "bubble",
 ];
 const FAULTS: [&str; 6] = ["rA", "rB", "code", "move", "jump", "OPq"];
 
@@ -115,8 +115,20 @@ pub const CLASSES: &Classes = &[
             "load-use and ret in D",
             "misprediction and ret in D",
             "OPq in E before a bad M",
+            "iaddq in E before a bad M",
         ],
     ),
+    (
+        "iaddq in E",
+        &[
+            "function 0",
+            "another function",
+            "-2^63",
+            "2^63 - 1",
+            "overflow",
+        ],
+    ),
+    ("iaddq in D", &["load-use", "none"]),
     (
         "fetch address",
         &["predicted", "false jump in M", "ret in W", "both"],
@@ -312,6 +324,7 @@ impl Compared<'_, Pipeline> {
             self.count_stops(tally);
             if record.w.is_none_or(|w| w.status == Status::Aok) {
                 self.count_controls(tally);
+                self.count_additions(tally);
                 self.count_fetch_address(tally);
             }
         }
@@ -405,12 +418,36 @@ impl Compared<'_, Pipeline> {
             ("load-use and ret in D", load_use && holds(d, RET)),
             ("misprediction and ret in D", mispredicted && holds(d, RET)),
             ("OPq in E before a bad M", bad_in_m && holds(e, OPQ)),
+            ("iaddq in E before a bad M", bad_in_m && holds(e, IADDQ)),
         ];
         for (name, _) in controls.iter().filter(|(_, set)| *set) {
             tally.count("control in the first clock", name);
         }
         if !load_use && !mispredicted && !record.returning() && !bad_in_m {
             tally.count("control in the first clock", "none");
+        }
+    }
+
+    /// What iaddq does in the first clock.
+    fn count_additions(&self, tally: &mut Tally) {
+        let record = &self.given.record;
+        if record.d.is_some_and(|d| d.code == IADDQ) {
+            let waits = record.load_use();
+            tally.count("iaddq in D", if waits { "load-use" } else { "none" });
+        }
+        let Some(e) = record.e.filter(|e| e.instruction.code == IADDQ) else {
+            return;
+        };
+        let (constant, own) = (e.instruction.constant as i64, e.instruction.function == 0);
+        let seen = [
+            ("function 0", own),
+            ("another function", !own),
+            ("-2^63", constant == i64::MIN),
+            ("2^63 - 1", constant == i64::MAX),
+            ("overflow", constant.checked_add(e.b as i64).is_none()),
+        ];
+        for (name, _) in seen.iter().filter(|(_, seen)| *seen) {
+            tally.count("iaddq in E", name);
         }
     }
 
@@ -441,7 +478,7 @@ fn faults_of(held: &Instruction) -> Vec<&'static str> {
     let faults = [
         ("rA", held.ra > 15),
         ("rB", held.rb > 15),
-        ("code", held.code > 11),
+        ("code", held.code > 12),
         ("move", held.code == CMOV && held.function > 6),
         ("jump", held.code == JXX && held.function > 6),
         ("OPq", held.code == OPQ && held.function > 3),

@@ -8,14 +8,29 @@ use desk::second::letter;
 use desk::second::machine::{MEMORY_LIMIT, PROGRAM_LIMIT};
 use desk::second::Status;
 
+/// Fillers of what was fetched, and those beside a named register of 15.
+const FILLERS: [&str; 7] = [
+    "0",
+    "8",
+    "14",
+    "15",
+    "another",
+    "15, and INS",
+    "another, and INS",
+];
+
 const CLASSES: &Classes = &[
     (
         "fetched",
         &[
             "nop", "cmovXX", "irmovq", "rmmovq", "mrmovq", "OPq", "jXX", "call", "ret", "pushq",
-            "popq", "HLT", "ADR", "INS",
+            "popq", "iaddq", "HLT", "ADR", "INS",
         ],
     ),
+    ("filler of irmovq", &FILLERS),
+    ("filler of iaddq", &FILLERS),
+    ("filler of pushq", &FILLERS),
+    ("filler of popq", &FILLERS),
     ("refused for memory", &["empty", "no", "over 65536"]),
     (
         "memory over 4096, address",
@@ -49,10 +64,40 @@ fn fetching_is_the_letters_equal() {
         assert_eq!(product, (number(answer), expected), "call {turn}");
         assert!(memory == given, "call {turn}: fetching has written");
         count(&mut tally, &given, &expected);
+        if answer.is_ok() {
+            count_filler(&mut tally, &given, &expected);
+        }
     }
     println!("compared {calls_made} fetches");
     println!("{}", tally.table(CLASSES));
     tally.check(CLASSES, 1);
+}
+
+/// Counts the filler of an instruction that has one and lies inside memory.
+/// Its code and function are in the table, so that INS is for its register.
+fn count_filler(tally: &mut Tally, memory: &[u8], fetched: &letter::Instruction) {
+    let at = |behind| memory.get(usize::try_from(fetched.address.checked_add(behind)?).ok()?);
+    let (Some(first), Some(halves)) = (at(0), at(1)) else {
+        return;
+    };
+    let (heading, filler) = match first {
+        0x30 => ("filler of irmovq", halves >> 4),
+        0xc0 => ("filler of iaddq", halves >> 4),
+        0xa0 => ("filler of pushq", halves & 15),
+        0xb0 => ("filler of popq", halves & 15),
+        _ => return,
+    };
+    let name = match (fetched.status, filler) {
+        (Status::Aok, 0) => "0",
+        (Status::Aok, 8) => "8",
+        (Status::Aok, 14) => "14",
+        (Status::Aok, 15) => "15",
+        (Status::Aok, _) => "another",
+        (Status::Ins, 15) => "15, and INS",
+        (Status::Ins, _) => "another, and INS",
+        _ => return,
+    };
+    tally.count(heading, name);
 }
 
 fn count(tally: &mut Tally, memory: &[u8], fetched: &letter::Instruction) {

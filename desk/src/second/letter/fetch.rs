@@ -19,7 +19,7 @@ const TABLE: [(u64, u8, bool, bool); 16] = [
     (1, 1, false, false),
     (2, 1, true, false),
     (2, 1, true, false),
-    (1, 0, false, false),
+    (10, 1, false, true),
     (1, 0, false, false),
     (1, 0, false, false),
     (1, 0, false, false),
@@ -63,13 +63,14 @@ fn parse(memory: &[u8], address: u64) -> Result<Instruction, Status> {
         return Err(Status::Ins);
     }
     let later = later_bytes(memory, address, length).ok_or(Status::Adr)?;
-    let (mut ra, mut rb) = (NONE, NONE);
-    if length == 2 || length == 10 {
-        (ra, rb) = (later[0] >> 4, later[0] & 15);
-        if (ra != NONE) != names_a || (rb != NONE) != names_b {
-            return Err(Status::Ins);
-        }
-    }
+    // Only a named register is looked at, and only it may not be 15.
+    let named = |names: bool, half: fn(u8) -> u8| match names {
+        true if half(later[0]) == NONE => Err(Status::Ins),
+        true => Ok(half(later[0])),
+        false => Ok(NONE),
+    };
+    let ra = named(names_a, |byte| byte >> 4)?;
+    let rb = named(names_b, |byte| byte & 15)?;
     if first == 0 {
         return Err(Status::Hlt);
     }

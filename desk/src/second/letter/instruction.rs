@@ -1,7 +1,7 @@
 //! An instruction, and what its code says of it.
 
 use crate::second::machine::{Status, NONE, RSP};
-use crate::second::table::{CALL, CMOV, IRMOVQ, JXX, MRMOVQ, OPQ, POPQ, PUSHQ, RET, RMMOVQ};
+use crate::second::table::{CALL, CMOV, IADDQ, IRMOVQ, JXX, MRMOVQ, OPQ, POPQ, PUSHQ, RET, RMMOVQ};
 
 /// An instruction as it was fetched; in a hand-made record, with any values.
 #[derive(Clone, Copy, Debug, PartialEq, Eq)]
@@ -27,7 +27,7 @@ impl Instruction {
         match self.code {
             CMOV => [self.ra, NONE],
             RMMOVQ | OPQ => [self.ra, self.rb],
-            MRMOVQ => [NONE, self.rb],
+            MRMOVQ | IADDQ => [NONE, self.rb],
             PUSHQ => [self.ra, RSP],
             POPQ | RET => [RSP, RSP],
             CALL => [NONE, RSP],
@@ -44,7 +44,7 @@ impl Instruction {
     pub fn result_target(&self, holds: bool) -> u8 {
         match self.code {
             CMOV if !holds => NONE,
-            CMOV | IRMOVQ | OPQ => self.rb,
+            CMOV | IRMOVQ | OPQ | IADDQ => self.rb,
             CALL | RET | PUSHQ | POPQ => RSP,
             _ => NONE,
         }
@@ -74,6 +74,6 @@ impl Instruction {
             OPQ => self.function <= 3,
             _ => true,
         };
-        self.ra <= NONE && self.rb <= NONE && self.code <= POPQ && function_allowed
+        self.ra <= NONE && self.rb <= NONE && self.code <= IADDQ && function_allowed
     }
 }

@@ -3,7 +3,7 @@
 
 use super::Instruction;
 use crate::second::arithmetic::Codes;
-use crate::second::table::{CALL, CMOV, IRMOVQ, JXX, MRMOVQ, OPQ, POPQ, PUSHQ, RET, RMMOVQ};
+use crate::second::table::{CALL, CMOV, IADDQ, IRMOVQ, JXX, MRMOVQ, OPQ, POPQ, PUSHQ, RET, RMMOVQ};
 
 /// The condition of a move or a jump under the codes; true for all others.
 pub fn holds(instruction: &Instruction, codes: Codes) -> bool {
@@ -24,7 +24,7 @@ pub fn result(instruction: &Instruction, a: u64, b: u64) -> u64 {
     match instruction.code {
         CMOV => a,
         IRMOVQ => instruction.constant,
-        RMMOVQ | MRMOVQ => b.wrapping_add(instruction.constant),
+        RMMOVQ | MRMOVQ | IADDQ => b.wrapping_add(instruction.constant),
         OPQ => true_result(instruction.function, a, b) as u64,
         CALL | PUSHQ => b.wrapping_sub(8),
         RET | POPQ => b.wrapping_add(8),
@@ -32,12 +32,14 @@ pub fn result(instruction: &Instruction, a: u64, b: u64) -> u64 {
     }
 }
 
-/// The codes after it: only OPq sets them.
+/// The codes after it: only OPq and iaddq set them, and iaddq as addq does,
+/// whatever its function is.
 pub fn codes_after(instruction: &Instruction, a: u64, b: u64, before: Codes) -> Codes {
-    if instruction.code != OPQ {
-        return before;
-    }
-    let truth = true_result(instruction.function, a, b);
+    let truth = match instruction.code {
+        OPQ => true_result(instruction.function, a, b),
+        IADDQ => true_result(0, instruction.constant, b),
+        _ => return before,
+    };
     let result = truth as i64;
     Codes::new(result == 0, result < 0, truth != i128::from(result))
 }
