@@ -3,14 +3,14 @@
 
 mod common;
 
-use common::{codes, pipeline, plain};
+use common::{codes, plain, settings};
 use desk::generate::{Case, Generator, Kind};
 use desk::second::account::{Account, Kind as Charge, Performed};
 use desk::second::machine::Status;
-use desk::second::pipeline::{Kinds, Logs, Pipeline};
+use desk::second::pipeline::{Kinds, Logs, Pipeline, Settings};
 use desk::second::plain::Plain;
 use desk::second::replay::read_registers;
-use desk::second::table::IADDQ;
+use desk::second::table::{IADDQ, JXX};
 
 /// Programs of each kind that the account is tried on; of large ones a tenth.
 const PROGRAMS: usize = 6_000;
@@ -26,6 +26,7 @@ struct Seen {
     charged: [u64; 3],
     stops: [usize; 5],
     added: Added,
+    guessed: Guessed,
 }
 
 /// The iaddq among them: how many, by -2^63, by 2^63 - 1, and charged for a
@@ -48,6 +49,57 @@ impl Added {
         self.most += usize::from(parts.constant == (1 << 63) - 1);
         self.charged += usize::from(performed.charge == Some(Charge::LoadUse));
     }
+}
+
+/// The conditional jumps among them: guessed skipped or taken, each rightly and
+/// wrongly; those with C at the next address, and with its top bit set.
+#[derive(Debug, Default)]
+struct Guessed {
+    skipped: [usize; 2],
+    taken: [usize; 2],
+    to_next: usize,
+    top_bit: usize,
+}
+
+impl Guessed {
+    /// Counts an instruction by its follower, which was charged or not.
+    fn count(&mut self, settings: Settings, [jump, follower]: [&Performed; 2]) {
+        let conditional = |code, function| code == JXX && function != 0;
+        let Some(parts) = jump
+            .parts
+            .filter(|parts| conditional(parts.code, parts.function))
+        else {
+            return;
+        };
+        let next = jump.address + 9;
+        let wrongly = usize::from(follower.charge == Some(Charge::Mispredict));
+        match settings.rule {
+            0 => self.taken[wrongly] += 1,
+            2 if parts.constant < next => self.taken[wrongly] += 1,
+            _ => self.skipped[wrongly] += 1,
+        }
+        self.to_next += usize::from(parts.constant == next);
+        self.top_bit += usize::from(parts.constant >> 63 == 1);
+    }
+
+    /// Whether all that the rule can show has turned up.
+    fn is_full(&self, settings: Settings) -> bool {
+        let (skipped, taken) = (self.skipped, self.taken);
+        let guesses = match settings.rule {
+            0 => [taken, taken],
+            1 => [skipped, skipped],
+            _ => [skipped, taken],
+        };
+        let enough = |count: &usize| *count > 20;
+        guesses.iter().flatten().all(enough) && [self.to_next, self.top_bit].iter().all(enough)
+    }
+}
+
+/// The pipelined engine at a case's start, with settings.
+fn pipeline(case: &Case, settings: Settings) -> Pipeline {
+    let registers = read_registers(&case.registers);
+    let size = case.image.len() as u64;
+    Pipeline::fresh(size, registers, codes(case.codes), case.start, settings).expect("a start")
 }
 
 /// The plain engine, brought along instruction by instruction.
@@ -78,39 +130,49 @@ fn the_pipeline_meets_the_account() {
         if kind == Kind::Refusals {
             continue;
         }
-        let mut generator = Generator::new(31 + kind as u64);
-        let mut seen = Seen::default();
-        let programs = match kind {
-            Kind::Large => PROGRAMS / 10,
-            _ => PROGRAMS,
-        };
-        for _ in 0..programs {
-            compare(&generator.case_of(kind), &mut seen);
-        }
-        println!("{}: {seen:?}", kind.name());
-        assert!(seen.whole > programs / 8, "{} {seen:?}", kind.name());
-        assert!(seen.stops[2..].iter().all(|stops| *stops > 0));
-        if kind != Kind::RandomBytes {
-            assert!(seen.charged.iter().all(|cycles| *cycles > 20));
-        }
-        if let Kind::Soup | Kind::Charges = kind {
-            let Added {
-                performed,
-                least,
-                most,
-                charged,
-            } = seen.added;
-            assert!([performed, least, most, charged]
-                .iter()
-                .all(|count| *count > 20));
+        for settings in settings::ALL {
+            compare_kind(kind, settings);
         }
     }
 }
 
+/// Programs of one kind, the same for all settings.
+fn compare_kind(kind: Kind, settings: Settings) {
+    let mut generator = Generator::new(31 + kind as u64);
+    let mut seen = Seen::default();
+    let programs = match kind {
+        Kind::Large => PROGRAMS / 10,
+        _ => PROGRAMS,
+    };
+    for _ in 0..programs {
+        compare(&generator.case_of(kind), settings, &mut seen);
+    }
+    println!("{}, {settings:?}: {seen:?}", kind.name());
+    assert!(seen.whole > programs / 8, "{} {seen:?}", kind.name());
+    assert!(seen.stops[2..].iter().all(|stops| *stops > 0));
+    if kind != Kind::RandomBytes {
+        assert!(seen.charged.iter().all(|cycles| *cycles > 20));
+    }
+    if let Kind::Soup | Kind::Charges = kind {
+        let Added {
+            performed,
+            least,
+            most,
+            charged,
+        } = seen.added;
+        assert!([performed, least, most, charged]
+            .iter()
+            .all(|count| *count > 20));
+    }
+    if kind == Kind::Charges {
+        assert!(seen.guessed.is_full(settings), "{:?}", seen.guessed);
+    }
+}
+
 /// Runs the pipeline clock by clock against the account of the plain history.
-fn compare(case: &Case, seen: &mut Seen) {
+fn compare(case: &Case, settings: Settings, seen: &mut Seen) {
     let mut whole = Follower::new(case);
-    let account = Account::of(&mut whole.machine, &mut whole.memory, MOST);
+    let account = Account::of(&mut whole.machine, &mut whole.memory, MOST, settings);
     let reach = account.premise_reach();
     let over = account.stopped && reach == account.performed.len();
     let last_clock = match reach {
@@ -118,8 +180,7 @@ fn compare(case: &Case, seen: &mut Seen) {
         reach => account.performed[reach - 1].due + if over { 3 } else { 0 },
     };
     let mut memory = case.image.clone();
-    let registers = read_registers(&case.registers);
-    let mut machine = pipeline(&case.image, registers, codes(case.codes), case.start);
+    let mut machine = pipeline(case, settings);
     let mut plain = [
         Follower::new(case),
         Follower::new(case),
@@ -137,13 +198,22 @@ fn compare(case: &Case, seen: &mut Seen) {
     seen.whole += usize::from(over);
     seen.cut += usize::from(!over);
     seen.retired += machine.retired;
-    account.performed[..reach]
-        .iter()
-        .for_each(|performed| seen.added.count(performed));
+    count_performed(&account.performed[..reach], settings, seen);
     let kinds = machine.kinds;
     let charged = [kinds.load_use, kinds.mispredict, kinds.returns];
     for (sum, cycles) in seen.charged.iter_mut().zip(charged) {
         *sum += cycles;
+    }
+}
+
+/// Counts what was compared of a history, each instruction and each with its
+/// follower.
+fn count_performed(performed: &[Performed], settings: Settings, seen: &mut Seen) {
+    for one in performed {
+        seen.added.count(one);
+    }
+    for pair in performed.windows(2) {
+        seen.guessed.count(settings, [&pair[0], &pair[1]]);
     }
 }
 
@@ -201,9 +271,12 @@ fn compare_end(machine: &Pipeline, memory: &[u8], plain: &Follower, account: &Ac
 }
 
 /// A run with logs; gives the record, the memory and the two logs.
-fn logged(case: &Case, budgets: &[u64]) -> (Pipeline, Vec<u8>, Vec<u64>, Vec<u64>) {
-    let registers = read_registers(&case.registers);
-    let mut machine = pipeline(&case.image, registers, codes(case.codes), case.start);
+fn logged(
+    case: &Case,
+    settings: Settings,
+    budgets: &[u64],
+) -> (Pipeline, Vec<u8>, Vec<u64>, Vec<u64>) {
+    let mut machine = pipeline(case, settings);
     let mut memory = case.image.clone();
     let (mut addresses, mut cycles) = (Vec::new(), Vec::new());
     for budget in budgets {
@@ -235,15 +308,16 @@ fn running_a_then_b_equals_a_and_b() {
             continue;
         }
         let (a, b) = (1 + case.budget % 61, 1 + case.budget % 97);
-        let joined = logged(&case, &[a + b]);
-        assert!(joined == logged(&case, &[a, b]));
-        let mut memory = case.image.clone();
-        let registers = read_registers(&case.registers);
-        let mut machine = pipeline(&case.image, registers, codes(case.codes), case.start);
-        for _ in 0..a + b {
-            machine.clock(&mut memory).expect("a clock");
+        for settings in settings::ALL {
+            let joined = logged(&case, settings, &[a + b]);
+            assert!(joined == logged(&case, settings, &[a, b]));
+            let mut memory = case.image.clone();
+            let mut machine = pipeline(&case, settings);
+            for _ in 0..a + b {
+                machine.clock(&mut memory).expect("a clock");
+            }
+            assert!((machine, memory) == (joined.0, joined.1));
         }
-        assert!((machine, memory) == (joined.0, joined.1));
         compared += 1;
     }
 }
@@ -254,16 +328,22 @@ fn logs_show_the_account() {
     let mut generator = Generator::new(6);
     for _ in 0..6_000 {
         let case = generator.case_of(Kind::Charges);
-        let mut whole = Follower::new(&case);
-        let account = Account::of(&mut whole.machine, &mut whole.memory, MOST);
-        let reach = account.premise_reach();
-        if reach == 0 {
-            continue;
+        for settings in settings::ALL {
+            compare_logs(&case, settings);
         }
-        let budget = account.performed[reach - 1].due;
-        let (_, _, addresses, cycles) = logged(&case, &[budget]);
-        let first = account.performed[..reach].iter();
-        assert!(first.clone().map(|one| one.address).eq(addresses));
-        assert!(first.map(|one| one.due).eq(cycles));
     }
+}
+
+fn compare_logs(case: &Case, settings: Settings) {
+    let mut whole = Follower::new(case);
+    let account = Account::of(&mut whole.machine, &mut whole.memory, MOST, settings);
+    let reach = account.premise_reach();
+    if reach == 0 {
+        return;
+    }
+    let budget = account.performed[reach - 1].due;
+    let (_, _, addresses, cycles) = logged(case, settings, &[budget]);
+    let first = account.performed[..reach].iter();
+    assert!(first.clone().map(|one| one.address).eq(addresses));
+    assert!(first.map(|one| one.due).eq(cycles));
 }

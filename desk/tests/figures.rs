@@ -2,12 +2,12 @@
 
 mod common;
 
-use common::{codes, pipeline, plain, registers, rsp, run_pipeline, run_plain, word};
+use common::{codes, pipeline, plain, registers, rsp, run_pipeline, run_plain, run_with, word};
 use desk::programs::{figure_4_8, from_hex, listing_001, listing_004, stretched_004};
 use desk::second::account::Account;
 use desk::second::arithmetic::operate;
 use desk::second::machine::Registers;
-use desk::second::pipeline::Logs;
+use desk::second::pipeline::{Logs, Settings};
 use desk::second::word;
 use desk::second::{y86run, Status, RSP};
 
@@ -298,6 +298,89 @@ fn fillers_are_not_looked_at() {
     }
 }
 
+/// #105: a je (ZF is 1, taken) and a jne (not taken), each over a nop, to the
+/// next address, back, and where the top bit is set: charged by which rules.
+#[test]
+fn jumps_are_charged_by_the_rule() {
+    // The function, C of the jump at 9, and the charge by rule 0, 1 and 2.
+    let cases = [
+        (3, 19, [0, 2, 2]),
+        (4, 19, [2, 0, 0]),
+        (3, 18, [0, 2, 2]),
+        (4, 18, [2, 0, 0]),
+        (3, 17, [0, 2, 0]),
+        (4, 17, [2, 0, 2]),
+        (3, 0, [0, 2, 0]),
+        (4, 0, [2, 0, 2]),
+        (3, 1 << 63, [0, 2, 2]),
+        (4, 1 << 63, [2, 0, 0]),
+        (4, u64::MAX, [2, 0, 0]),
+    ];
+    for (function, constant, charges) in cases {
+        for (rule, charge) in charges.into_iter().enumerate() {
+            // At 0 jmp 9, where the jump is; from 18 on nop and halt.
+            let mut image = from_hex("700900000000000000 00");
+            image[9] = 0x70 | function;
+            image.extend(constant.to_le_bytes());
+            image.extend([0x10, 0x00]);
+            let settings = Settings { rule: rule as u8 };
+            let ran = run_with(&image, Registers::default(), settings);
+            let second = (ran.addresses[2], ran.cycles[2]);
+            let goes_to = if function == 3 { constant } else { 18 };
+            assert_eq!(ran.addresses[..2], [0, 9]);
+            assert_eq!(second, (goes_to, 7 + charge), "{constant:x} {settings:?}");
+            if constant != 0 || function == 4 {
+                assert_eq!(ran.kinds(), (0, charge, 0), "{constant:x} {settings:?}");
+            }
+        }
+    }
+}
+
+/// #105: the listings by every rule. That of 001 has one conditional jump, on
+/// and not taken; that of 004 a je on, not taken, and a jne back, taken three
+/// times and not the fourth.
+#[test]
+fn the_listings_by_every_rule() {
+    for (rule, charged) in [(0, 2), (1, 0), (2, 0)] {
+        let ran = run_with(&listing_001(), Registers::default(), Settings { rule });
+        assert_eq!(
+            (ran.kinds(), ran.machine.cycles),
+            ((0, charged, 3), 18 + charged)
+        );
+        assert_eq!((ran.machine.retired, ran.machine.last), (11, 0x40));
+        assert_eq!(word(&ran.memory, 120), 64);
+    }
+    let first = run_pipeline(&listing_004(), Registers::default());
+    for (rule, charged) in [(0, 4), (1, 6), (2, 2)] {
+        let ran = run_with(&listing_004(), Registers::default(), Settings { rule });
+        assert_eq!(
+            (ran.kinds(), ran.machine.cycles),
+            ((5, charged, 6), 48 + charged)
+        );
+        assert_eq!(
+            (ran.addresses, ran.memory),
+            (first.addresses.clone(), first.memory.clone())
+        );
+        assert_eq!(ran.machine.registers, first.machine.registers);
+    }
+}
+
+/// #105: the unconditional jump goes to C by every rule, also where C is not
+/// below its next address.
+#[test]
+fn the_unconditional_jump_is_never_charged() {
+    for rule in 0..3 {
+        for constant in [9_u64, 10, 11] {
+            let mut image = vec![0x70];
+            image.extend(constant.to_le_bytes());
+            image.extend([0x10, 0x10, 0x00]);
+            let ran = run_with(&image, Registers::default(), Settings { rule });
+            assert_eq!((ran.addresses[1], ran.cycles[1]), (constant, 6));
+            assert_eq!((ran.kinds(), ran.machine.status), ((0, 0, 0), Status::Hlt));
+        }
+    }
+}
+
 /// The plain log takes one address for each instruction; the rest stays.
 #[test]
 fn the_plain_log_shows_the_way() {
@@ -399,5 +482,5 @@ fn reading_10_the_premise() {
 fn account_of(image: &[u8]) -> Account {
     let mut memory = image.to_vec();
     let mut machine = plain(&memory, Registers::default(), codes(4), 0);
-    Account::of(&mut machine, &mut memory, 1_000)
+    Account::of(&mut machine, &mut memory, 1_000, Settings::default())
 }

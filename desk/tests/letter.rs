@@ -4,15 +4,16 @@
 mod common;
 
 use common::tally::{Classes, Tally};
-use common::{codes, pipeline};
-use desk::generate::{Call, Calls, Origin, Way};
+use common::{codes, pipeline, settings};
+use desk::generate::{Call, Calls, Generator, Origin, Way};
 use desk::second::fetch::{fetch, Parts};
 use desk::second::letter;
 use desk::second::machine::{Refusal, Registers, Status};
-use desk::second::pipeline::{Logs, Pipeline};
+use desk::second::pipeline::{Logs, Pipeline, Settings};
 use desk::second::plain::Plain;
+use desk::second::replay::read_registers;
 use desk::second::stages::{Accessing, Decoding, Executing, Instruction, Writing};
-use desk::second::table::{row_of, IADDQ, IRMOVQ, POPQ, PUSHQ};
+use desk::second::table::{row_of, IADDQ, IRMOVQ, JXX, POPQ, PUSHQ};
 
 /// How many calls of each engine are compared; unoptimised code gets fewer.
 const CALLS: u64 = if cfg!(debug_assertions) {
@@ -28,6 +29,10 @@ const CLASSES: &Classes = &[
     ("pipeline record", &RECORDS),
     ("pipeline answer", &["0", "1", "3", "4", "5"]),
     ("start answer", &["0", "1", "6"]),
+    (
+        "start with rule",
+        &["0", "1", "2", "3", "4", "255", "another"],
+    ),
 ];
 
 #[test]
@@ -40,6 +45,7 @@ fn the_fast_engines_are_the_letters_equal() {
         count(&mut tally, ["plain record", "plain answer"], origin, answer);
         let (origin, mut call) = calls.call(Way::Logged);
         fit(&mut call.record);
+        settings::count(&mut tally, &call);
         let answer = compare_pipelined(call, number);
         count(
             &mut tally,
@@ -49,13 +55,15 @@ fn the_fast_engines_are_the_letters_equal() {
         );
     }
     for _ in 0..CALLS {
-        let (size, start) = calls.start();
-        let answer = compare_starts(size, start);
+        let ((size, start), given) = (calls.start(), calls.settings());
+        let answer = compare_starts(size, start, given);
         tally.count("start answer", number_name(answer));
+        tally.count("start with rule", settings::rule_name(given.rule));
     }
     println!("compared {CALLS} calls of each engine, and as many starts");
-    println!("{}", tally.table(CLASSES));
-    tally.check(CLASSES, 1);
+    let classes = [CLASSES, settings::CLASSES].concat();
+    println!("{}", tally.table(&classes));
+    tally.check(&classes, 1);
 }
 
 fn count(
@@ -74,13 +82,13 @@ fn number_name(answer: Result<(), Refusal>) -> &'static str {
 }
 
 /// A fresh start of each engine, fast and by the letter.
-fn compare_starts(size: u64, start: u64) -> Result<(), Refusal> {
+fn compare_starts(size: u64, start: u64, settings: Settings) -> Result<(), Refusal> {
     let (registers, codes) = (Registers::default(), codes(4));
     let fast = Plain::fresh(size, registers, codes, start);
     let expected = letter::Machine::fresh(size, registers, codes, start);
     assert_eq!(fast, expected.map(|record| plain(&record)));
-    let fast = Pipeline::fresh(size, registers, codes, start);
-    let expected = letter::Pipeline::fresh(size, registers, codes, start);
+    let fast = Pipeline::fresh(size, registers, codes, start, settings);
+    let expected = letter::Pipeline::fresh(size, registers, codes, start, settings);
     assert_eq!(fast, expected.map(|record| packed(&record)));
     fast.map(|_| ())
 }
@@ -161,6 +169,7 @@ fn fit(record: &mut letter::Pipeline) {
 
 /// The record of the fast engine.
 fn packed(record: &letter::Pipeline) -> Pipeline {
+    let undecided = |held: &letter::Instruction| undecided(held, record.settings.rule);
     Pipeline {
         predicted: record.predicted,
         d: record.d.map(|d| Decoding {
@@ -175,12 +184,12 @@ fn packed(record: &letter::Pipeline) -> Pipeline {
         }),
         m: record.m.map(|m| Accessing {
             instruction: undecided(&m.instruction).decided(m.holds),
-            result: m.result,
+            result: result(&m.instruction, m.result),
             a: m.a,
         }),
         w: record.w.map(|w| Writing {
-            instruction: written(&w),
-            result: w.result,
+            instruction: written(&w, undecided(&w.instruction)),
+            result: result(&w.instruction, w.result),
             loaded: w.word,
         }),
         registers: record.registers,
@@ -193,19 +202,56 @@ fn packed(record: &letter::Pipeline) -> Pipeline {
         kept: record
             .kept
             .map(|kept| undecided(&kept.instruction).decided(kept.holds)),
+        settings: record.settings,
     }
 }
 
-fn undecided(held: &letter::Instruction) -> Instruction {
+fn undecided(held: &letter::Instruction, rule: u8) -> Instruction {
     let code = (held.code, held.function);
     Instruction::new(held.address, code, (held.ra, held.rb), held.status)
+        .guessed(rule, held.constant)
 }
 
-fn written(w: &letter::Accessed) -> Instruction {
-    let decided = undecided(&w.instruction).decided(w.holds);
+/// A jump has no result, and the fast engine has its C there.
+fn result(held: &letter::Instruction, result: u64) -> u64 {
+    match held.code {
+        JXX => held.constant,
+        _ => result,
+    }
+}
+
+fn written(w: &letter::Accessed, undecided: Instruction) -> Instruction {
+    let decided = undecided.decided(w.holds);
     match w.status == w.instruction.status {
         true => decided,
         false => decided.outside(),
+    }
+}
+
+/// Whole programs from a fresh start, the same by every setting.
+#[test]
+fn programs_are_the_letters_equal_by_every_setting() {
+    let mut generator = Generator::new(0x5e77);
+    for number in 0..CALLS / 50 {
+        let kind = generator.running_kind();
+        let case = generator.case_of(kind);
+        let budget = case.budget.min(400);
+        for settings in settings::ALL {
+            let record = letter::Pipeline::fresh(
+                case.image.len() as u64,
+                read_registers(&case.registers),
+                codes(case.codes),
+                case.start,
+                settings,
+            );
+            let call = Call {
+                record: record.expect("a start"),
+                memory: case.image.clone(),
+                budget,
+                logs: vec![vec![7; budget as usize]; 2],
+            };
+            assert_eq!(compare_pipelined(call, number), Ok(()));
+        }
     }
 }
 

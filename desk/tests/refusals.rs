@@ -6,7 +6,7 @@ use common::codes;
 use desk::programs::listing_001;
 use desk::second::letter;
 use desk::second::machine::{Refusal, Registers, Status, CYCLE_LIMIT, PLAIN_LIMIT};
-use desk::second::pipeline::{Kinds, Logs, Pipeline};
+use desk::second::pipeline::{Kinds, Logs, Pipeline, Settings};
 use desk::second::plain::Plain;
 use desk::second::replay;
 use desk::second::stages::{Accessing, Decoding, Executing, Instruction, Writing};
@@ -219,6 +219,46 @@ fn counts_above_the_cycles_are_refused() {
     );
 }
 
+/// #105: a rule number over 2 is refusal 5, after all lower numbers, on stopped
+/// machines too and beside other faults of the record. Starts take any rule.
+#[test]
+fn rules_over_two_are_refused() {
+    for rule in 0..=u8::MAX {
+        let settings = Settings { rule };
+        let (registers, codes) = (Registers::default(), codes(4));
+        let fresh = Pipeline::fresh(1, registers, codes, 0, settings).expect("a start");
+        let by_letter = letter::Pipeline::fresh(1, registers, codes, 0, settings).expect("a start");
+        assert_eq!(
+            (fresh.settings, by_letter.settings),
+            (settings, settings),
+            "a start keeps its settings"
+        );
+        let expected = (rule > 2).then_some(Refusal::Record);
+        let stopped = Pipeline {
+            status: Status::Hlt,
+            ..fresh
+        };
+        for machine in [fresh, stopped] {
+            assert_eq!(pipeline_refusal(machine, 1, 1, (1, 1)), expected, "{rule}");
+        }
+        assert_eq!(by_letter.clone().clock(&mut [0x10]).err(), expected);
+        let spoilt = Pipeline {
+            retired: 1,
+            ..fresh
+        };
+        let refused = [
+            (0, 0, (0, 0), Refusal::Memory),
+            (1, 0, (0, 0), Refusal::Budget),
+            (1, 1, (1, 0), Refusal::Buffer),
+            (1, 1, (1, 1), Refusal::Record),
+        ];
+        for (size, budget, logs, lowest) in refused {
+            let answer = pipeline_refusal(spoilt, size, budget, logs);
+            assert_eq!(answer, Some(lowest), "{rule}");
+        }
+    }
+}
+
 /// #109: a fresh start is refused for the size of memory, and last for an
 /// address that is not below it. By the letter too.
 #[test]
@@ -240,9 +280,9 @@ fn fresh_starts_are_refused_by_number() {
     for (size, start, expected) in cases {
         let answers = [
             Plain::fresh(size, registers, codes, start).err(),
-            Pipeline::fresh(size, registers, codes, start).err(),
+            Pipeline::fresh(size, registers, codes, start, Settings::default()).err(),
             letter::Machine::fresh(size, registers, codes, start).err(),
-            letter::Pipeline::fresh(size, registers, codes, start).err(),
+            letter::Pipeline::fresh(size, registers, codes, start, Settings::default()).err(),
         ];
         assert_eq!(answers, [expected; 4], "{start} in {size} bytes");
     }
@@ -256,7 +296,8 @@ fn a_run_that_goes_on_is_not_refused_for_its_start() {
     let mut machine = Plain::fresh(9, registers, codes, 8).expect("a start");
     assert_eq!(machine.step(&mut [0x10; 8]), Ok(()));
     assert_eq!((machine.status, machine.last), (Status::Adr, 8));
-    let mut machine = Pipeline::fresh(9, registers, codes, 8).expect("a start");
+    let mut machine =
+        Pipeline::fresh(9, registers, codes, 8, Settings::default()).expect("a start");
     assert_eq!(machine.run(&mut [0x10; 8], 9, None), Ok(()));
     assert_eq!((machine.status, machine.last), (Status::Adr, 8));
 }

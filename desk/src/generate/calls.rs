@@ -1,10 +1,11 @@
 //! Calls of both engines, with records fresh, reached by a run and made by
 //! hand, some of them to be refused for any reasons together.
 
-use super::records::Record;
+use super::records::{refused_rule, settings, Record};
 use super::{outside, refused_memory, Generator, Random};
 use crate::second::arithmetic::Codes;
 use crate::second::machine::{Registers, MEMORY_LIMIT, PROGRAM_LIMIT};
+use crate::second::pipeline::Settings;
 use crate::second::replay::read_registers;
 use crate::second::table::row_of;
 
@@ -88,7 +89,7 @@ impl Calls {
         let (mut memory, registers, start) = self.program();
         let random = &mut self.random;
         let codes = any_codes(random);
-        let mut record = R::fresh(registers, codes, start, memory.len());
+        let mut record = R::fresh(random, registers, codes, start, memory.len());
         let origins = [
             Origin::Fresh,
             Origin::Reached,
@@ -135,6 +136,15 @@ impl Calls {
             _ => random.below(size.max(1)),
         };
         (size, start)
+    }
+
+    /// Settings for a fresh start, refused ones too, which a start takes.
+    pub fn settings(&mut self) -> Settings {
+        let allowed = settings(&mut self.random);
+        let refused = Settings {
+            rule: refused_rule(&mut self.random),
+        };
+        self.random.pick(&[allowed, allowed, refused])
     }
 
     /// Memory and an address to fetch from, inside and outside of all limits.

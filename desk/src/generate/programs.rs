@@ -457,15 +457,28 @@ fn addend(random: &mut Random) -> u64 {
     random.pick(&[1 << 63, (1 << 63) - 1, few, few, any])
 }
 
-/// A jump over one instruction, behind one that sets the codes or not.
+/// A jump behind an instruction that sets the codes or not: over one
+/// instruction, to the next one, back to one that leads on, or, seldom, far
+/// away.
 fn jump_piece(random: &mut Random, code: &mut Code) {
     if random.chance(2, 3) {
         set_codes(random, code);
     }
-    let skipped = random.pick(&[HALT, NOP, RET, 0xd]);
-    let target = code.here() + 9 + 1;
-    code.jump(random.below(7) as u8, target);
-    code.plain(skipped);
+    let function = random.below(7) as u8;
+    let here = code.here();
+    match random.below(16) {
+        0 => code.jump(function, 1 << 63 | random.pick(&[here, here + 10])),
+        1..=3 => code.jump(function, here + 9),
+        4..=8 => {
+            code.jump(0, here + 18);
+            code.jump(0, here + 27);
+            code.jump(function, here + 9);
+        }
+        _ => {
+            code.jump(function, here + 10);
+            code.plain(random.pick(&[HALT, NOP, RET, 0xd]));
+        }
+    }
 }
 
 /// A ret to the instruction after it; with a load of rsp just before, often.

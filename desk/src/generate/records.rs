@@ -5,8 +5,8 @@ use super::Random;
 use crate::second::arithmetic::Codes;
 use crate::second::letter::{Accessed, Decoded, Executed, Instruction, Machine, Pipeline, Retired};
 use crate::second::machine::{Registers, Status, CYCLE_LIMIT, PLAIN_LIMIT, REGISTER_COUNT};
-use crate::second::pipeline::Kinds;
-use crate::second::table::{CMOV, IADDQ, JXX, OPQ};
+use crate::second::pipeline::{Kinds, Settings};
+use crate::second::table::{row_of, CMOV, IADDQ, JXX, OPQ};
 use std::fmt::Debug;
 
 /// A record of one of the two engines.
@@ -16,8 +16,15 @@ pub trait Record: Clone + Debug + PartialEq {
     /// How many logs a run takes.
     const LOGS: usize;
 
-    /// A fresh start in a memory of this size, which the start is inside of.
-    fn fresh(registers: Registers, codes: Codes, start: u64, size: usize) -> Self;
+    /// A fresh start in a memory of this size, which the start is inside of,
+    /// with any settings that are not refused.
+    fn fresh(
+        random: &mut Random,
+        registers: Registers,
+        codes: Codes,
+        start: u64,
+        size: usize,
+    ) -> Self;
 
     /// One step or clock, by the letter.
     fn advance(&mut self, memory: &mut [u8]);
@@ -46,7 +53,13 @@ impl Record for Machine {
     const LIMIT: u64 = PLAIN_LIMIT;
     const LOGS: usize = 1;
 
-    fn fresh(registers: Registers, codes: Codes, start: u64, size: usize) -> Machine {
+    fn fresh(
+        _: &mut Random,
+        registers: Registers,
+        codes: Codes,
+        start: u64,
+        size: usize,
+    ) -> Machine {
         Machine::fresh(size as u64, registers, codes, start).expect("a start")
     }
 
@@ -93,8 +106,15 @@ impl Record for Pipeline {
     const LIMIT: u64 = CYCLE_LIMIT;
     const LOGS: usize = 2;
 
-    fn fresh(registers: Registers, codes: Codes, start: u64, size: usize) -> Pipeline {
-        Pipeline::fresh(size as u64, registers, codes, start).expect("a start")
+    fn fresh(
+        random: &mut Random,
+        registers: Registers,
+        codes: Codes,
+        start: u64,
+        size: usize,
+    ) -> Pipeline {
+        let settings = settings(random);
+        Pipeline::fresh(size as u64, registers, codes, start, settings).expect("a start")
     }
 
     fn advance(&mut self, memory: &mut [u8]) {
@@ -116,7 +136,7 @@ impl Record for Pipeline {
                 mispredict: count(random, cycles),
                 returns: count(random, cycles),
             },
-            ..Record::fresh(Registers::default(), Codes::default(), 0, size)
+            ..Record::fresh(random, Registers::default(), Codes::default(), 0, size)
         };
         for place in 0..5 {
             if random.chance(4, 5) {
@@ -131,11 +151,12 @@ impl Record for Pipeline {
         for _ in 0..random.pick(&[1, 1, 1, 3]) {
             let more = self.cycles.saturating_add(1 + random.below(3));
             let count = random.pick(&[more, u64::MAX]);
-            match random.below(12) {
+            match random.below(14) {
                 0 => self.retired = count,
                 1 => self.kinds.load_use = count,
                 2 => self.kinds.mispredict = count,
                 3 => self.kinds.returns = count,
+                4 | 5 => self.settings.rule = refused_rule(random),
                 _ => {
                     let instruction = refused_instruction(random, size);
                     let place = random.below(5);
@@ -164,6 +185,20 @@ impl Record for Pipeline {
     fn status(&self) -> Status {
         self.status
     }
+}
+
+/// Settings that are not refused.
+pub(super) fn settings(random: &mut Random) -> Settings {
+    Settings {
+        rule: random.below(u64::from(Settings::LAST_RULE) + 1) as u8,
+    }
+}
+
+/// A rule number that is refused.
+pub(super) fn refused_rule(random: &mut Random) -> u8 {
+    let over = Settings::LAST_RULE + 1;
+    let any = over + random.below(u64::from(u8::MAX - over)) as u8;
+    random.pick(&[3, 4, 255, any])
 }
 
 /// A value that is often an address inside, and sometimes at an end of the
@@ -217,18 +252,23 @@ fn register(random: &mut Random) -> u8 {
     }
 }
 
-/// An instruction that a record may hold.
+/// An instruction that a record may hold. Its next address is often the one
+/// behind it, and its constant at times the next address or just below.
 fn instruction(random: &mut Random, size: usize) -> Instruction {
     let code = random.below(u64::from(IADDQ) + 1) as u8;
+    let [address, own, constant] = [(); 3].map(|()| value(random, size));
+    let behind = address.wrapping_add(u64::from(row_of(code).length));
+    let next = random.pick(&[own, behind]);
+    let below = next.wrapping_sub(1);
     Instruction {
-        address: value(random, size),
+        address,
         status: status(random, 7, 8),
         code,
         function: random.below(functions(code)) as u8,
         ra: register(random),
         rb: register(random),
-        constant: value(random, size),
-        next: value(random, size),
+        constant: random.pick(&[next, below, constant, constant, constant, constant]),
+        next,
     }
 }
 

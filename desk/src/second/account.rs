@@ -6,8 +6,9 @@
 
 use super::fetch::{fetch, own_bytes, Parts};
 use super::machine::{Status, NONE, RSP};
+use super::pipeline::Settings;
 use super::plain::Plain;
-use super::table::{CALL, CMOV, IADDQ, JXX, MRMOVQ, OPQ, POPQ, PUSHQ, RET, RMMOVQ};
+use super::table::{row_of, CALL, CMOV, IADDQ, JXX, MRMOVQ, OPQ, POPQ, PUSHQ, RET, RMMOVQ};
 use std::ops::Range;
 
 /// Why an instruction is charged.
@@ -52,7 +53,7 @@ pub struct Performed {
 enum Leaves {
     Nothing,
     Loaded(u8),
-    NotTaken,
+    WronglyGuessed,
     Returned,
 }
 
@@ -63,15 +64,18 @@ pub struct Account {
     pub performed: Vec<Performed>,
     /// Whether the last of them is the stopping one.
     pub stopped: bool,
+    settings: Settings,
 }
 
 impl Account {
-    /// The account of at most so many instructions from a record; memory and
-    /// record are left as the last of them left them.
-    pub fn of(machine: &mut Plain, memory: &mut [u8], most: usize) -> Account {
+    /// The account of at most so many instructions from a record, for a
+    /// pipeline with settings that are not refused; memory and record are left
+    /// as the last of them left them.
+    pub fn of(machine: &mut Plain, memory: &mut [u8], most: usize, settings: Settings) -> Account {
         let mut account = Account {
             performed: Vec::new(),
             stopped: machine.status != Status::Aok,
+            settings,
         };
         while !account.stopped && account.performed.len() < most {
             let performed = account.perform(machine, memory);
@@ -97,8 +101,31 @@ impl Account {
             due: earlier + 1 + charge.map_or(0, Kind::cycles),
             own_bytes,
             written: good.map_or(0..0, |parts| written(&before, &parts)),
-            leaves: good.map_or(Leaves::Nothing, |parts| leaves(&before, &parts)),
+            leaves: good.map_or(Leaves::Nothing, |parts| self.leaves(&before, &parts)),
         }
+    }
+
+    /// What a performed instruction leaves, by the record as it stood before it.
+    fn leaves(&self, before: &Plain, parts: &Parts) -> Leaves {
+        match parts.code {
+            MRMOVQ | POPQ => Leaves::Loaded(parts.ra),
+            JXX if parts.function != 0 => {
+                let taken = before.codes.condition(parts.function);
+                match taken == self.guess(before.address, parts) {
+                    true => Leaves::Nothing,
+                    false => Leaves::WronglyGuessed,
+                }
+            }
+            RET => Leaves::Returned,
+            _ => Leaves::Nothing,
+        }
+    }
+
+    /// Whether the rule guesses a conditional jump taken.
+    fn guess(&self, address: u64, jump: &Parts) -> bool {
+        let next = address.wrapping_add(u64::from(row_of(JXX).length));
+        let guesses = [true, false, jump.constant < next];
+        guesses[usize::from(self.settings.rule)]
     }
 
     /// How many of the instructions are due by the end of a cycle.
@@ -145,7 +172,7 @@ fn charge(left: Leaves, parts: Option<&Parts>) -> Option<Kind> {
             let uses = parts.is_some_and(|parts| sources(parts).contains(&register));
             uses.then_some(Kind::LoadUse)
         }
-        Leaves::NotTaken => Some(Kind::Mispredict),
+        Leaves::WronglyGuessed => Some(Kind::Mispredict),
         Leaves::Returned => Some(Kind::Return),
     }
 }
@@ -159,16 +186,6 @@ fn sources(parts: &Parts) -> [u8; 2] {
         PUSHQ => [parts.ra, RSP],
         POPQ | CALL | RET => [RSP, NONE],
         _ => [NONE, NONE],
-    }
-}
-
-/// What a performed instruction leaves, by the record as it stood before it.
-fn leaves(before: &Plain, parts: &Parts) -> Leaves {
-    match parts.code {
-        MRMOVQ | POPQ => Leaves::Loaded(parts.ra),
-        JXX if !before.codes.condition(parts.function) => Leaves::NotTaken,
-        RET => Leaves::Returned,
-        _ => Leaves::Nothing,
     }
 }
 

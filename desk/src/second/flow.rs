@@ -2,7 +2,7 @@
 
 use super::arithmetic::{operate, Codes, ADD};
 use super::machine::{Registers, Status, NONE};
-use super::pipeline::{Kinds, Pipeline};
+use super::pipeline::{Kinds, Pipeline, Settings};
 use super::stages::{fetch_stage, Accessing, Decoding, Executing, Instruction, Writing};
 use super::table::{CALL, CMOV, IADDQ, IRMOVQ, JXX, MRMOVQ, OPQ, POPQ, PUSHQ, RET, RMMOVQ};
 use super::word;
@@ -23,6 +23,7 @@ pub(super) struct Flow {
     pub(super) cycles: u64,
     kinds: Kinds,
     kept: Instruction,
+    settings: Settings,
 }
 
 impl Flow {
@@ -41,6 +42,7 @@ impl Flow {
             cycles: record.cycles,
             kinds: record.kinds,
             kept: record.kept.unwrap_or(Instruction::BUBBLE),
+            settings: record.settings,
         }
     }
 
@@ -60,6 +62,7 @@ impl Flow {
             cycles: self.cycles,
             kinds: self.kinds,
             kept: self.kept.is_present().then_some(self.kept),
+            settings: self.settings,
         }
     }
 
@@ -74,14 +77,14 @@ impl Flow {
         }
         let (executed, codes) = execute(&self.e, self.codes);
         let load_use = self.load_use();
-        let mispredicted = executed.instruction.is_jump_not_taken();
+        let mispredicted = executed.instruction.is_guessed_wrongly();
         let returning = self.returning();
         let mut into_d = Decoding::BUBBLE;
         if load_use {
             into_d = self.d;
         } else if !returning {
             // Before the access: memory is read before the clock's write.
-            (into_d, self.predicted) = fetch_stage(memory, fetch_address);
+            (into_d, self.predicted) = fetch_stage(memory, fetch_address, self.settings.rule);
         }
         let accessed = access(memory, &self.m);
         if load_use || mispredicted {
@@ -108,8 +111,8 @@ impl Flow {
     /// read, then the predicted address.
     #[inline(always)]
     fn fetch_address(&self) -> u64 {
-        if self.m.instruction.is_jump_not_taken() {
-            self.m.instruction.next()
+        if self.m.instruction.is_guessed_wrongly() {
+            self.m.goes_to()
         } else if self.w.instruction.code() == RET {
             self.w.loaded
         } else {
@@ -148,7 +151,7 @@ impl Flow {
         let kept = &self.kept;
         if retiring.has_source(kept.loaded_target()) {
             self.kinds.load_use += 1;
-        } else if kept.is_jump_not_taken() && kept.function() != 0 {
+        } else if kept.is_guessed_wrongly() && kept.function() != 0 {
             self.kinds.mispredict += 2;
         } else if kept.code() == RET {
             self.kinds.returns += 3;
@@ -224,7 +227,7 @@ fn execute(stage: &Executing, codes: Codes) -> (Accessing, Codes) {
         }
         JXX => {
             instruction = decided();
-            0
+            constant
         }
         IRMOVQ => constant,
         RMMOVQ | MRMOVQ => b.wrapping_add(constant),

@@ -15,6 +15,19 @@ pub struct Kinds {
     pub returns: u64,
 }
 
+/// The settings that a start record carries; the default is document 01's.
+#[derive(Clone, Copy, Debug, Default, PartialEq, Eq)]
+pub struct Settings {
+    /// How jumps are predicted (#105): 0 taken; 1 conditional jumps never taken;
+    /// 2 taken exactly when C is below the next address, without sign.
+    pub rule: u8,
+}
+
+impl Settings {
+    /// The last of the three rules; a number over it is refusal 5.
+    pub const LAST_RULE: u8 = 2;
+}
+
 /// The pipelined machine's record; its memory is lent at each call.
 #[derive(Clone, Copy, Debug, PartialEq, Eq)]
 pub struct Pipeline {
@@ -35,6 +48,7 @@ pub struct Pipeline {
     pub kinds: Kinds,
     /// The last instruction retired with AOK, for the charges.
     pub kept: Option<Instruction>,
+    pub settings: Settings,
 }
 
 /// The two logs a caller lends: retirement addresses and their cycles.
@@ -45,12 +59,13 @@ pub struct Logs<'a> {
 
 impl Pipeline {
     /// A fresh start in a memory of this size: F holds the start address and
-    /// the rest are bubbles.
+    /// the rest are bubbles. Any settings are taken: the runs refuse them.
     pub fn fresh(
         size: u64,
         registers: Registers,
         codes: Codes,
         start: u64,
+        settings: Settings,
     ) -> Result<Pipeline, Refusal> {
         check_start(size, start)?;
         Ok(Pipeline {
@@ -67,6 +82,7 @@ impl Pipeline {
             cycles: 0,
             kinds: Kinds::default(),
             kept: None,
+            settings,
         })
     }
 
@@ -141,7 +157,9 @@ impl Pipeline {
             .max(kinds.load_use)
             .max(kinds.mispredict)
             .max(kinds.returns);
-        if held.iter().flatten().all(Instruction::is_known) && highest <= self.cycles {
+        let instructions_known = held.iter().flatten().all(Instruction::is_known);
+        let rule_known = self.settings.rule <= Settings::LAST_RULE;
+        if instructions_known && highest <= self.cycles && rule_known {
             Ok(())
         } else {
             Err(Refusal::Record)

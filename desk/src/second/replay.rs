@@ -3,7 +3,7 @@
 use super::arithmetic::Codes;
 use super::machine::{check_budget, check_memory, CYCLE_LIMIT};
 use super::machine::{Refusal, Registers, REGISTER_COUNT};
-use super::pipeline::Pipeline;
+use super::pipeline::{Pipeline, Settings};
 
 /// Bytes in the register block: fifteen words.
 pub const REGISTER_BYTES: usize = 8 * REGISTER_COUNT;
@@ -42,7 +42,8 @@ pub fn replay_to_record(
     check_budget(0, budget, CYCLE_LIMIT)?;
     check_length(result, RESULT_BYTES, Refusal::Buffer)?;
     let codes = Codes::from_number(codes).ok_or(Refusal::Record)?;
-    let mut machine = Pipeline::fresh(size, read_registers(registers), codes, start)?;
+    let registers_given = read_registers(registers);
+    let mut machine = Pipeline::fresh(size, registers_given, codes, start, Settings::default())?;
     machine.run(memory, budget, None)?;
     write_words(registers, &machine.registers.0);
     write_words(

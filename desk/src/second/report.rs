@@ -2,7 +2,7 @@
 
 use super::arithmetic::Codes;
 use super::machine::{Refusal, Registers, PROGRAM_LIMIT, REGISTER_NAMES};
-use super::pipeline::Pipeline;
+use super::pipeline::{Pipeline, Settings};
 
 /// The program's cycle budget.
 pub const PROGRAM_BUDGET: u64 = 4_000;
@@ -23,7 +23,8 @@ pub fn program_run(memory: &mut [u8]) -> Result<Pipeline, Refusal> {
     }
     let codes = Codes::new(true, false, false);
     let size = memory.len() as u64;
-    let mut machine = Pipeline::fresh(size, Registers::default(), codes, 0)?;
+    let settings = Settings::default();
+    let mut machine = Pipeline::fresh(size, Registers::default(), codes, 0, settings)?;
     machine.run(memory, PROGRAM_BUDGET, None)?;
     Ok(machine)
 }

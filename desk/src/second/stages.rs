@@ -20,6 +20,9 @@ pub struct Instruction {
 /// The places of the packed fields, in bits.
 const PRESENT: u32 = 0;
 const CONDITION: u32 = 1;
+const GUESS: u32 = 2;
+/// Whether condition and guess differ, once the condition is decided.
+const DIFFER: u32 = 3;
 const STATUS: u32 = 4;
 const CODE: u32 = 8;
 const FUNCTION: u32 = 16;
@@ -39,8 +42,9 @@ impl Instruction {
             | 0x0f0f_0f0f << SOURCE_A,
     };
 
-    /// An instruction as fetch hands it on, with the status of its fetch.
-    /// One with a bad fetch status has no sources, whatever its code says.
+    /// An instruction as fetch hands it on, with the status of its fetch; a
+    /// jump guessed taken. One with a bad fetch status has no sources, whatever
+    /// its code says.
     #[inline(always)]
     pub fn new(
         address: u64,
@@ -54,6 +58,7 @@ impl Instruction {
         }
         let word = 1 << PRESENT
             | 1 << CONDITION
+            | 1 << GUESS
             | status.number() << STATUS
             | u64::from(code) << CODE
             | u64::from(function) << FUNCTION
@@ -61,11 +66,28 @@ impl Instruction {
         Instruction { address, word }
     }
 
+    /// The instruction with what a rule (#105) guesses of a jump to C. Without a
+    /// condition a jump is guessed taken by every rule.
+    #[inline(always)]
+    pub fn guessed(mut self, rule: u8, constant: u64) -> Instruction {
+        if self.code() == JXX && self.function() != 0 {
+            let taken = match rule {
+                0 => true,
+                1 => false,
+                _ => constant < self.next(),
+            };
+            self.word = self.word & !(1 << GUESS) | u64::from(taken) << GUESS;
+        }
+        self
+    }
+
     /// The instruction with its condition decided, as M, W and the kept one
     /// hold it; a false cmov has no target.
     #[inline(always)]
     pub fn decided(mut self, condition: bool) -> Instruction {
-        self.word = self.word & !(1 << CONDITION) | u64::from(condition) << CONDITION;
+        let differ = condition != self.guess();
+        let decided = u64::from(condition) << CONDITION | u64::from(differ) << DIFFER;
+        self.word = self.word & !(1 << CONDITION | 1 << DIFFER) | decided;
         if !condition && self.code() == CMOV {
             self.word |= u64::from(NONE) << RESULT_TARGET;
         }
@@ -156,11 +178,17 @@ impl Instruction {
         self.byte(LOADED_TARGET)
     }
 
-    /// A jump whose condition was false.
+    /// Whether a jump was guessed taken.
     #[inline(always)]
-    pub fn is_jump_not_taken(&self) -> bool {
-        const DECIDES: u64 = 0xff << CODE | 1 << CONDITION;
-        self.word & DECIDES == (JXX as u64) << CODE
+    fn guess(&self) -> bool {
+        self.word & 1 << GUESS != 0
+    }
+
+    /// A jump whose outcome differs from the guess.
+    #[inline(always)]
+    pub fn is_guessed_wrongly(&self) -> bool {
+        const DECIDES: u64 = 0xff << CODE | 1 << DIFFER;
+        self.word & DECIDES == (JXX as u64) << CODE | 1 << DIFFER
     }
 
     /// Whether a register is one of the sources; 15 matches nothing.
@@ -199,6 +227,7 @@ impl fmt::Debug for Instruction {
             .field("loaded_target", &self.loaded_target())
             .field("status", &self.status())
             .field("condition", &self.condition())
+            .field("guess", &self.guess())
             .finish()
     }
 }
@@ -220,7 +249,8 @@ pub struct Executing {
 }
 
 /// What M holds: what execute made of the instruction. `a` is the word that a
-/// store writes, or the address that popq and ret read from.
+/// store writes, or the address that popq and ret read from; a jump hands on its
+/// C as the result, which it has no target for.
 #[derive(Clone, Copy, Debug, PartialEq, Eq)]
 pub struct Accessing {
     pub instruction: Instruction,
@@ -263,6 +293,15 @@ impl Accessing {
         result: 0,
         a: 0,
     };
+
+    /// Where a jump goes: to C, or to its next address.
+    #[inline(always)]
+    pub(super) fn goes_to(&self) -> u64 {
+        match self.instruction.condition() {
+            true => self.result,
+            false => self.instruction.next(),
+        }
+    }
 }
 
 impl Writing {
@@ -273,18 +312,24 @@ impl Writing {
     };
 }
 
-/// Fetches what goes into D, and predicts the address after it: call and jXX
-/// go to C, others to the next address. One fetched with a bad status travels
-/// as a nop with that status, and predicts its own address.
+/// Fetches what goes into D, and predicts the address after it: call and a jump
+/// that the rule guesses taken go to C, others to the next address. One fetched
+/// with a bad status travels as a nop with that status, and predicts its own
+/// address.
 #[inline(always)]
-pub(super) fn fetch_stage(memory: &[u8], address: u64) -> (Decoding, u64) {
+pub(super) fn fetch_stage(memory: &[u8], address: u64, rule: u8) -> (Decoding, u64) {
     match fetch(memory, address) {
         Ok(parts) => {
             let (code, constant) = (parts.code, parts.constant);
             let named = (parts.ra, parts.rb);
-            let instruction = Instruction::new(address, (code, parts.function), named, Status::Aok);
+            let mut instruction =
+                Instruction::new(address, (code, parts.function), named, Status::Aok);
+            if code == JXX {
+                instruction = instruction.guessed(rule, constant);
+            }
             let predicted = match code {
-                CALL | JXX => constant,
+                CALL => constant,
+                JXX if instruction.guess() => constant,
                 _ => instruction.next(),
             };
             (Decoding::new(instruction, constant), predicted)

@@ -2,11 +2,12 @@
 //! engines, and counts.
 #![allow(dead_code)]
 
+pub mod settings;
 pub mod tally;
 
 use desk::second::arithmetic::Codes;
 use desk::second::machine::{Registers, RSP};
-use desk::second::pipeline::{Logs, Pipeline};
+use desk::second::pipeline::{Logs, Pipeline, Settings};
 use desk::second::plain::Plain;
 
 /// The codes given as 4ZF + 2SF + OF.
@@ -28,9 +29,11 @@ pub fn plain(memory: &[u8], given: Registers, codes: Codes, start: u64) -> Plain
     Plain::fresh(memory.len() as u64, given, codes, start).expect("a start")
 }
 
-/// A fresh start of the pipelined engine, inside its memory.
+/// A fresh start of the pipelined engine, inside its memory, with document 01's
+/// settings.
 pub fn pipeline(memory: &[u8], given: Registers, codes: Codes, start: u64) -> Pipeline {
-    Pipeline::fresh(memory.len() as u64, given, codes, start).expect("a start")
+    let size = memory.len() as u64;
+    Pipeline::fresh(size, given, codes, start, Settings::default()).expect("a start")
 }
 
 /// What a whole pipelined run leaves.
@@ -51,8 +54,14 @@ impl Ran {
 
 /// A pipelined run of at most 4,000 cycles from address 0, ZF=1.
 pub fn run_pipeline(image: &[u8], given: Registers) -> Ran {
+    run_with(image, given, Settings::default())
+}
+
+/// The same with any settings.
+pub fn run_with(image: &[u8], given: Registers, settings: Settings) -> Ran {
     let mut memory = image.to_vec();
     let mut machine = pipeline(&memory, given, codes(4), 0);
+    machine.settings = settings;
     let (mut addresses, mut cycles) = (vec![0; 4_000], vec![0; 4_000]);
     let logs = Logs {
         addresses: &mut addresses,

@@ -4,7 +4,7 @@
 use desk::second::arithmetic::Codes;
 use desk::second::letter::{Accessed, Decoded, Executed, Instruction, Machine, Pipeline, Retired};
 use desk::second::machine::{Registers, Status};
-use desk::second::pipeline::Kinds;
+use desk::second::pipeline::{Kinds, Settings};
 
 /// Words in an instruction's part, and in a state part.
 pub const INSTRUCTION: usize = 9;
@@ -18,6 +18,7 @@ const W: usize = 33;
 const PIPELINE_STATE: usize = 46;
 const COUNTS: usize = 66;
 const KEPT: usize = 71;
+const SETTINGS: usize = 81;
 
 /// A record that a block can hold.
 pub trait Block: Sized {
@@ -48,7 +49,7 @@ impl Block for Machine {
 
 impl Block for Pipeline {
     fn words(&self) -> Vec<u64> {
-        let mut words = vec![0; KEPT + INSTRUCTION + 1];
+        let mut words = vec![0; SETTINGS + 1];
         words[0] = self.predicted;
         let state = state(&self.registers, self.codes, self.status, self.last);
         words[PIPELINE_STATE..][..STATE].copy_from_slice(&state);
@@ -78,6 +79,7 @@ impl Block for Pipeline {
         if let Some(kept) = self.kept {
             put(&mut words[KEPT..], &kept.instruction, &[holds(kept.holds)]);
         }
+        words[SETTINGS] = u64::from(self.settings.rule);
         words
     }
 
@@ -101,6 +103,9 @@ impl Block for Pipeline {
                 returns: words[COUNTS + 4],
             },
             kept: kept_from(&words[KEPT..]),
+            settings: Settings {
+                rule: byte(words[SETTINGS]),
+            },
         }
     }
 }

@@ -1,9 +1,10 @@
 //! What turned up among the calls that were compared.
 
+use crate::common::settings;
 use crate::common::tally::{Classes, Tally};
 use crate::entries::Engine;
 use desk::generate::{Call, Origin};
-use desk::second::letter::{Instruction, Machine, Pipeline};
+use desk::second::letter::{Executed, Instruction, Machine, Pipeline};
 use desk::second::machine::{Refusal, Status};
 use desk::second::table::{CALL, CMOV, IADDQ, JXX, OPQ, RET};
 
@@ -97,7 +98,7 @@ pub const CLASSES: &Classes = &[
     ("refused for kept", &FAULTS),
     (
         "refused for",
-        &["retired", "load-use", "mispredict", "return"],
+        &["retired", "load-use", "mispredict", "return", "rule"],
     ),
     (
         "bad status in",
@@ -131,12 +132,15 @@ pub const CLASSES: &Classes = &[
     ("iaddq in D", &["load-use", "none"]),
     (
         "fetch address",
-        &["predicted", "false jump in M", "ret in W", "both"],
+        &[
+            "predicted",
+            "C of a jump in M",
+            "next of a jump in M",
+            "ret in W",
+            "jump in M and ret in W",
+        ],
     ),
-    (
-        "own next address",
-        &["of a false jump in M", "of a call in M"],
-    ),
+    ("own next address", &["of a jump in M", "of a call in M"]),
     ("charged", &["nothing", "load-use", "mispredict", "return"]),
     (
         "kept",
@@ -293,6 +297,7 @@ impl Counted for Pipeline {
 
     fn count(compared: &Compared<Pipeline>, tally: &mut Tally, refused: &'static str) {
         compared.count(tally, refused);
+        settings::count(tally, compared.given);
         compared.count_record(tally);
     }
 }
@@ -346,6 +351,9 @@ impl Compared<'_, Pipeline> {
         ];
         let above = counts.iter().filter(|(_, count)| *count > record.cycles);
         faults.extend(above.map(|(name, _)| ("refused for", *name)));
+        if record.settings.rule > 2 {
+            faults.push(("refused for", "rule"));
+        }
         if let [(heading, fault)] = faults[..] {
             tally.count(heading, fault);
         }
@@ -453,19 +461,22 @@ impl Compared<'_, Pipeline> {
 
     fn count_fetch_address(&self, tally: &mut Tally) {
         let record = &self.given.record;
-        let jump = record.m.filter(|m| m.instruction.code == JXX && !m.holds);
+        let rule = record.settings.rule;
+        let wrongly = |m: &Executed| m.instruction.is_guessed_wrongly(rule, m.holds);
+        let jump = record.m.filter(wrongly);
         let returned = record.w.is_some_and(|w| w.instruction.code == RET);
-        let name = match (jump.is_some(), returned) {
-            (false, false) => "predicted",
-            (true, false) => "false jump in M",
-            (false, true) => "ret in W",
-            (true, true) => "both",
+        let name = match jump {
+            Some(_) if returned => "jump in M and ret in W",
+            Some(jump) if jump.holds => "C of a jump in M",
+            Some(_) => "next of a jump in M",
+            None if returned => "ret in W",
+            None => "predicted",
         };
         tally.count("fetch address", name);
         let call = record.m.filter(|m| m.instruction.code == CALL);
         let own = |held: &Instruction| held.next != held.address.wrapping_add(9);
-        if jump.is_some_and(|jump| own(&jump.instruction)) {
-            tally.count("own next address", "of a false jump in M");
+        if jump.is_some_and(|jump| !jump.holds && own(&jump.instruction)) {
+            tally.count("own next address", "of a jump in M");
         }
         if call.is_some_and(|call| own(&call.instruction)) {
             tally.count("own next address", "of a call in M");

@@ -121,8 +121,8 @@ pub trait Engine: Record + Block {
     /// The heading under which refused starts are counted.
     const START_REFUSED: &'static str;
 
-    /// A fresh start with this record's registers and codes in a memory of
-    /// this size, by the product: over this record's block, so that a word left
+    /// A fresh start with this record's registers, codes and settings in a memory
+    /// of this size, by the product: over this record's block, so that a word left
     /// over shows. Answers 0 or the number of the refusal.
     fn start_by_product(&mut self, size: u64, start: u64) -> u64;
 
@@ -165,7 +165,7 @@ impl Engine for Pipeline {
     }
 
     fn start_by_letter(&mut self, size: u64, start: u64) -> u64 {
-        let fresh = Pipeline::fresh(size, self.registers, self.codes, start);
+        let fresh = Pipeline::fresh(size, self.registers, self.codes, start, self.settings);
         number(fresh.map(|fresh| *self = fresh))
     }
 }

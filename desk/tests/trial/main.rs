@@ -16,6 +16,7 @@ mod counts;
 mod entries;
 mod fetching;
 
+use common::settings;
 use common::tally::Tally;
 use counts::{reasons_name, Compared, Counted, CLASSES};
 use desk::generate::{Call, Calls, Way};
@@ -46,8 +47,9 @@ fn every_entry_is_the_letters_equal() {
     });
     let spent = begin.elapsed().as_secs_f64();
     println!("compared {CALLS} calls in {spent:.1} s");
-    println!("{}", tally.table(CLASSES));
-    tally.check(CLASSES, 1);
+    let classes = [CLASSES, settings::CLASSES].concat();
+    println!("{}", tally.table(&classes));
+    tally.check(&classes, 1);
 }
 
 /// Compares calls from a seed, each entry in its turn.
@@ -136,7 +138,8 @@ impl Trial {
         Some(product)
     }
 
-    /// A fresh start over a record, in a memory of any size at any address.
+    /// A fresh start over a record, with its settings, refused ones too, in a
+    /// memory of any size at any address.
     fn compare_start<R: Engine>(&mut self, given: &R) {
         let (size, start) = self.calls.start();
         let (mut product, mut letter) = (given.clone(), given.clone());

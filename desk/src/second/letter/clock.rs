@@ -31,7 +31,7 @@ impl Pipeline {
             .map_or(before.codes, |e| e.codes_after(before.codes));
         self.e = before.d.map(|d| before.decoded(d, &self.m, &self.w));
         self.d = Some(fetched);
-        self.predicted = predicted(&fetched);
+        self.predicted = predicted(&fetched, self.settings.rule);
         self.control(&before, memory.len());
     }
 
@@ -81,7 +81,8 @@ impl Pipeline {
             self.kinds.load_use += 1;
         }
         // Function 0 is the jump without a condition.
-        if before.is_jump() && before.function != 0 && !kept.holds {
+        let wrongly = before.is_guessed_wrongly(self.settings.rule, kept.holds);
+        if wrongly && before.function != 0 {
             self.kinds.mispredict += 2;
         }
         if before.is_return() {
@@ -89,10 +90,14 @@ impl Pipeline {
         }
     }
 
-    /// Where fetch reads.
+    /// Where fetch reads: behind a wrong guess, where the jump goes.
     fn fetch_address(&self) -> u64 {
+        let rule = self.settings.rule;
         match (&self.m, &self.w) {
-            (Some(m), _) if m.instruction.is_jump() && !m.holds => m.instruction.next,
+            (Some(m), _) if m.instruction.is_guessed_wrongly(rule, m.holds) => match m.holds {
+                true => m.instruction.constant,
+                false => m.instruction.next,
+            },
             (_, Some(w)) if w.instruction.is_return() => w.word,
             _ => self.predicted,
         }
@@ -135,10 +140,13 @@ impl Pipeline {
         }
     }
 
-    /// A jump in E whose condition is false.
+    /// A jump in E whose outcome differs from the guess.
     pub fn mispredicted(&self) -> bool {
-        self.e
-            .is_some_and(|e| e.instruction.is_jump() && !holds(&e.instruction, self.codes))
+        self.e.is_some_and(|e| {
+            let outcome = holds(&e.instruction, self.codes);
+            e.instruction
+                .is_guessed_wrongly(self.settings.rule, outcome)
+        })
     }
 
     /// A ret in D, E or M.
@@ -195,11 +203,12 @@ impl Executed {
     }
 }
 
-/// The predicted address: call and jXX go to C, others to the next address,
-/// which for a bad fetch is its own.
-fn predicted(fetched: &Instruction) -> u64 {
+/// The predicted address: call and a jump guessed taken go to C, others to the
+/// next address, which for a bad fetch is its own.
+fn predicted(fetched: &Instruction, rule: u8) -> u64 {
     match fetched.code {
-        CALL | JXX => fetched.constant,
+        CALL => fetched.constant,
+        JXX if fetched.is_guessed_taken(rule) => fetched.constant,
         _ => fetched.next,
     }
 }

@@ -62,6 +62,21 @@ impl Instruction {
         self.code == JXX
     }
 
+    /// Whether a jump is guessed taken by a rule (#105): the unconditional one
+    /// always; others always, never, or when C is below the next address.
+    pub fn is_guessed_taken(&self, rule: u8) -> bool {
+        match (self.function, rule) {
+            (0, _) | (_, 0) => true,
+            (_, 1) => false,
+            _ => self.constant < self.next,
+        }
+    }
+
+    /// Whether it is a jump whose outcome differs from the guess.
+    pub fn is_guessed_wrongly(&self, rule: u8, holds: bool) -> bool {
+        self.is_jump() && holds != self.is_guessed_taken(rule)
+    }
+
     pub fn is_return(&self) -> bool {
         self.code == RET
     }

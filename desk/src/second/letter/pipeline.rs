@@ -4,7 +4,7 @@ use super::refusals::{lowest, of_budget, of_logs, of_memory, of_start};
 use super::Instruction;
 use crate::second::arithmetic::Codes;
 use crate::second::machine::{Refusal, Registers, Status, CYCLE_LIMIT};
-use crate::second::pipeline::{Kinds, Logs};
+use crate::second::pipeline::{Kinds, Logs, Settings};
 
 /// What E holds: an instruction with the values of its sources.
 #[derive(Clone, Copy, Debug, PartialEq, Eq)]
@@ -58,16 +58,18 @@ pub struct Pipeline {
     pub cycles: u64,
     pub kinds: Kinds,
     pub kept: Option<Retired>,
+    pub settings: Settings,
 }
 
 impl Pipeline {
-    /// A fresh start in a memory of this size: F holds the start address and
-    /// the rest are bubbles.
+    /// A fresh start in a memory of this size, with any settings: F holds the
+    /// start address and the rest are bubbles.
     pub fn fresh(
         size: u64,
         registers: Registers,
         codes: Codes,
         start: u64,
+        settings: Settings,
     ) -> Result<Pipeline, Refusal> {
         lowest(&of_start(size, start))?;
         Ok(Pipeline {
@@ -84,6 +86,7 @@ impl Pipeline {
             cycles: 0,
             kinds: Kinds::default(),
             kept: None,
+            settings,
         })
     }
 
@@ -109,7 +112,7 @@ impl Pipeline {
         all.into_iter().flatten().collect()
     }
 
-    /// Refusal 5, of the record: its instructions and its counts.
+    /// Refusal 5, of the record: its instructions, its counts and its rule.
     fn refusal_of_record(&self) -> Option<Refusal> {
         let Kinds {
             load_use,
@@ -119,7 +122,8 @@ impl Pipeline {
         let counts = [self.retired, load_use, mispredict, returns];
         let instructions = self.instructions();
         let allowed = instructions.iter().flatten().all(Instruction::is_allowed)
-            && counts.iter().all(|count| *count <= self.cycles);
+            && counts.iter().all(|count| *count <= self.cycles)
+            && [0, 1, 2].contains(&self.settings.rule);
         (!allowed).then_some(Refusal::Record)
     }
 
