@@ -12,6 +12,7 @@ use text::put_text;
 ghost use mathlib.Core.Path.{_≡_};
 ghost use mathlib.Core.Bool.{false};
 ghost use Prim.Native.Nat.{_+_, _^_, _≤_, _<_};
+ghost use lib.ListN.{length};
 ghost use Rattle.machine.specs.Fetch.{namesA, namesB, half as halfOf};
 ghost use Rattle.machine.specs.Table.{rowOf};
 ghost use Rattle.text.specs.Put.{Put};
@@ -98,4 +99,13 @@ pub fn put_form(
     let mut word = [0u8; 8];
     word::store(&mut word, 0, constant);
     put_text(buffer, second, &word)
+}
+
+// How many bytes these are: the same writer over an empty buffer.
+pub fn form_length(code: u64, function: u64, ra: u64, rb: u64, constant: u64) -> usize
+    requires { ⌜ encodeRefused (fields code function ra rb constant) ≡ false ⌝ }
+    ensures { λ r. ⌜ r ≡ length (form (fields code function ra rb constant)) ⌝ }
+{
+    let mut nothing: [u8; 0] = [];
+    put_form(&mut nothing, 0, code, function, ra, rb, constant)
 }
