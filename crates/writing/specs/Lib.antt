@@ -1,0 +1,4 @@
+pub mod HexText
+pub mod Remark
+pub mod Text
+pub mod Back
