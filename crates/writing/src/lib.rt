@@ -1,1 +1,2 @@
-// Writing listings.
+// Writing listings: one instruction a line, with its notation as the remark (#104).
+mod hexes;
