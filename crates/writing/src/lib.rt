@@ -1,2 +1,3 @@
 // Writing listings: one instruction a line, with its notation as the remark (#104).
 mod hexes;
+mod words;
