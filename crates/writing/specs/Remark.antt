@@ -59,10 +59,10 @@ register k = bytes "%" ++ bytes (registerName k)
 
 unfoldable pub operands : Operands → (ra rb constant : ℕ) → Text
 operands nothing a b c = []
-operands pair a b c = bytes " " ++ (register a ++ (bytes ", " ++ register b))
-operands immediate a b c = bytes " $" ++ (decimal c ++ (bytes ", " ++ register b))
-operands store a b c = bytes " " ++ (register a ++ (bytes ", " ++ (decimal c ++ (bytes "(" ++ (register b ++ bytes ")")))))
-operands load a b c = bytes " " ++ (decimal c ++ (bytes "(" ++ (register b ++ (bytes "), " ++ register a))))
+operands pair a b c = bytes " " ++ register a ++ (bytes ", " ++ register b)
+operands immediate a b c = bytes " $" ++ decimal c ++ (bytes ", " ++ register b)
+operands store a b c = bytes " " ++ register a ++ (bytes ", " ++ decimal c ++ (bytes "(" ++ register b ++ bytes ")"))
+operands load a b c = bytes " " ++ decimal c ++ (bytes "(" ++ register b ++ (bytes "), " ++ register a))
 operands target a b c = bytes " " ++ decimal c
 operands single a b c = bytes " " ++ register a
 

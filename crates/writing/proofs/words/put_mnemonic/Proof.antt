@@ -1,37 +1,42 @@
-use native.Mathlib.Omega.{arith}
-use Rattle.writing.proofs.Naming.{known-code, its-word, mnemonic-put}
+use Rattle.writing.proofs.Naming.{code-there, word-there, nothing-put, mnemonic-put}
 use borrow.Author.Needs.{needs}
+use native.Mathlib.Omega.{arith}
 use Rattle.writing.proofs.words.put_mnemonic.Statement.{statement}
 use Rattle.writing.proofs.words.put_mnemonic.Tie as tie
-use Rattle.writing.proofs.words.put_mnemonic.Reads as reads
-use Rattle.writing.proofs.words.put_mnemonic.Lts as lts
-use Rattle.writing.proofs.words.put_word.Reads as put-word-reads
 
--- src/words.rt:37:17
+functions-of-requires : tie.Need-functions-of-requires
+functions-of-requires c κs = search needs
+
+returns : tie.Need-returns
+returns c = (search (needs, nothing-put), omega arith)
+
 array-read-first : tie.Need-array-read-first
-array-read-first c = known-code _ _ (c .before .pre .0)
+array-read-first c = search (needs, code-there)
 
--- src/words.rt:38:26
 cast-put-word : tie.Need-cast-put-word
-cast-put-word c = omega (arith, its-word (c .before .before .args .code) _ (c .before .before .pre .0) .1)
+cast-put-word c = omega (arith, word-there _ _ _ (c .before .before .functions-of .ensures) (c .before .if1 .left))
 
--- src/words.rt:38:26
 add-put-word : tie.Need-add-put-word
-add-put-word c = omega (arith, its-word (c .before .before .args .code) _ (c .before .before .pre .0) .1)
+add-put-word c = omega (arith, word-there _ _ _ (c .before .before .functions-of .ensures) (c .before .if1 .left))
 
--- src/words.rt:38:5
 put-word-requires : tie.Need-put-word-requires
-put-word-requires c κs = (its-word _ _ (c .before .before .pre .0) .1, omega arith)
+put-word-requires c κs = (search (needs, word-there), omega arith)
 
--- src/words.rt:31:1
 same-length : tie.Need-same-length
 same-length c = search needs
 
--- src/words.rt:31:1
-returns : tie.Need-returns
-returns c = (search (needs, mnemonic-put), omega arith)
+returns-2 : tie.Need-returns-2
+returns-2 c = (search (needs, mnemonic-put), omega arith)
 
 pub put-mnemonic-spec : {M : Type 1} → statement M
 put-mnemonic-spec =
     tie.close
-    (tie.spec array-read-first cast-put-word add-put-word put-word-requires same-length returns)
+    (tie.spec
+    functions-of-requires
+    returns
+    array-read-first
+    cast-put-word
+    add-put-word
+    put-word-requires
+    same-length
+    returns-2)

@@ -1,27 +1,38 @@
-use native.Mathlib.Omega.{arith}
-use Rattle.writing.proofs.Naming.{register-put}
+use Rattle.writing.proofs.Naming.{sign-put, register-put}
 use borrow.Author.Needs.{needs}
+use native.Mathlib.Omega.{arith}
 use Rattle.writing.proofs.words.put_register.Statement.{statement}
 use Rattle.writing.proofs.words.put_register.Tie as tie
-use Rattle.writing.proofs.words.put_register.Reads as reads
-use Rattle.writing.proofs.words.put_register.Lts as lts
-use Rattle.writing.proofs.words.put_word.Reads as put-word-reads
 
--- src/words.rt:47:26
-add-put-word : tie.Need-add-put-word
-add-put-word c = search needs
+put-byte-requires : tie.Need-put-byte-requires
+put-byte-requires c κs = search needs
 
--- src/words.rt:47:5
-put-word-requires : tie.Need-put-word-requires
-put-word-requires c κs = search needs
-
--- src/words.rt:42:1
 same-length : tie.Need-same-length
 same-length c = search needs
 
--- src/words.rt:42:1
 returns : tie.Need-returns
-returns c = (search (needs, register-put), omega arith)
+returns c = (search (needs, sign-put), omega arith)
+
+add-put-word : tie.Need-add-put-word
+add-put-word c = search needs
+
+put-word-requires : tie.Need-put-word-requires
+put-word-requires c κs = search needs
+
+same-length-2 : tie.Need-same-length-2
+same-length-2 c = search needs
+
+returns-2 : tie.Need-returns-2
+returns-2 c = (search (needs, register-put), omega arith)
 
 pub put-register-spec : {M : Type 1} → statement M
-put-register-spec = tie.close (tie.spec add-put-word put-word-requires same-length returns)
+put-register-spec =
+    tie.close
+    (tie.spec
+    put-byte-requires
+    same-length
+    returns
+    add-put-word
+    put-word-requires
+    same-length-2
+    returns-2)
