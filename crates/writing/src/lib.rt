@@ -1,3 +1,4 @@
 // Writing listings: one instruction a line, with its notation as the remark (#104).
 mod hexes;
+mod remarks;
 mod words;
