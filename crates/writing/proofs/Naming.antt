@@ -19,11 +19,11 @@ use Rattle.writing.specs.Remark.{mnemonics, mnemonic, register}
 use Rattle.writing.specs.Words.{words, wordAt}
 
 -- what is computed of each number below n holds of any of them
-abbrev Each : (P : ℕ → Type 0) → ℕ → Type 0
+abbrev pub Each : (P : ℕ → Type 0) → ℕ → Type 0
 Each P zero = Unit {0}
 Each P (suc n) = P n × Each P n
 
-each : (P : ℕ → Type 0) (n : ℕ) → Each P n → (q : ℕ) → q < n → P q
+pub each : (P : ℕ → Type 0) (n : ℕ) → Each P n → (q : ℕ) → q < n → P q
 each P zero x q h = absurd (omega arith)
 each P (suc n) x q h = ⊎-elim (λ (e : q ≡ n). subst P (sym e) (x .0)) (λ (l : q < n). each P n (x .1) q l) (eq-or-lt-of-le (omega arith))
 

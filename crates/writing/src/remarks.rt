@@ -71,3 +71,45 @@ fn put_load(buffer: &mut [u8], at: usize, ra: u8, rb: u8, constant: u64) -> usiz
     let second = put_then_register(buffer, first, b"(", rb);
     put_then_register(buffer, second, b"), ", ra)
 }
+
+// What stands behind the name, by code: nothing, rA and rB, C and rB, rA to memory, memory to rA, C, rA.
+const SHAPES: [u8; 13] = [0, 0, 1, 2, 3, 4, 1, 5, 5, 0, 6, 6, 2];
+
+fn put_operands(buffer: &mut [u8], at: usize, code: u8, ra: u8, rb: u8, constant: u64) -> usize
+    requires { ⌜ at + 42 < 2 ^ 64 ⌝ }
+    ensures { λ r. ⌜ Put (operands (getD operandsOf code nothing) ra rb constant) at (now (buffer .entry)) r (now (buffer .exit)) ⌝ }
+    ensures { λ r. ⌜ r ≤ at + 42 ⌝ }
+{
+    if 13 <= code {
+        return at;
+    }
+    let row = code as usize;
+    let shape = SHAPES[row];
+    match shape {
+        1 => put_pair(buffer, at, ra, rb),
+        2 => put_immediate(buffer, at, rb, constant),
+        3 => put_store(buffer, at, ra, rb, constant),
+        4 => put_load(buffer, at, ra, rb, constant),
+        5 => put_then_constant(buffer, at, b" ", constant),
+        6 => put_then_register(buffer, at, b" ", ra),
+        _ => at,
+    }
+}
+
+// An instruction as it was fetched; a halt is fetched as a nop with HLT.
+pub fn put_remark(buffer: &mut [u8], at: usize, i: Instruction) -> usize
+    requires { ⌜ at + 48 < 2 ^ 64 ⌝ }
+    ensures { λ r. ⌜ Put (remark (i .status) i) at (now (buffer .entry)) r (now (buffer .exit)) ⌝ }
+    ensures { λ r. ⌜ r ≤ at + 48 ⌝ }
+{
+    let status = i.status;
+    match status {
+        Status::Aok => {
+            let next = put_mnemonic(buffer, at, i.code, i.function);
+            put_operands(buffer, next, i.code, i.ra, i.rb, i.constant)
+        }
+        Status::Hlt => put_mnemonic(buffer, at, 0, 0),
+        Status::Adr => at,
+        Status::Ins => at,
+    }
+}
