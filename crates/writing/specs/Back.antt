@@ -115,7 +115,7 @@ pairs-hex (x ∷ b) h =
     let l : x < 256 = h 0 (omega arith) in
     rw (digit-hex (x / 16) (omega arith), digit-hex (x % 16) (mod-lt x (omega arith))) (pairs-hex b (λ k i. h (suc k) (omega arith)))
 
-pairs-length : (b : List ℕ) → length (hexPairs b) ≡ 2 * length b
+pub pairs-length : (b : List ℕ) → length (hexPairs b) ≡ 2 * length b
 unfolding hexPairs
 pairs-length [] = refl
 pairs-length (x ∷ b) = omega (arith, pairs-length b)

@@ -4,6 +4,7 @@ use mathlib.Core.Bool.{Bool, true, false, cond, not, _&&_, _||_}
 use mathlib.Core.List.{List, [], _∷_}
 use lib.Dec.{ltb, leb}
 use lib.ListN.{take, drop}
+use Rattle.machine.specs.declared.Instruction.{Instruction}
 use Rattle.machine.specs.declared.Status.{Status}
 use Rattle.machine.specs.declared.Status.the-variants.{Aok as aok, Hlt as hlt, Adr as adr, Ins as ins}
 use Rattle.machine.specs.Memory.{Memory}
@@ -39,13 +40,14 @@ unfoldable pub lineBytes : (cut : Bool) → Memory → (a end : ℕ) → ℕ
 lineBytes cut m a end = cond (whole cut m a end) (sizeAt m a) 1
 
 -- "a line of one byte without remark"
+abbrev pub noted : (whole : Bool) → Instruction → Remark
+noted w i = cond w (some (remark (i .status) i)) none
+
+abbrev pub lineOf : (address : ℕ) (bytes : List ℕ) → Remark → Record
+lineOf a b r = record { address = hexText a; bytes = hexPairs b; remark = r }
+
 unfoldable pub lineAt : (cut : Bool) → Memory → (a end : ℕ) → Record
-lineAt cut m a end =
-    record {
-      address = hexText a;
-      bytes = hexPairs (take (lineBytes cut m a end) (drop a (m .bytes)));
-      remark = cond (whole cut m a end) (some (remark (fetch m a .status) (fetch m a))) none;
-    }
+lineAt cut m a end = lineOf a (take (lineBytes cut m a end) (drop a (m .bytes))) (noted (whole cut m a end) (fetch m a))
 
 -- the lines from a on, so many at most
 unfoldable pub linesFrom : (most : ℕ) → (cut : Bool) → Memory → (a end : ℕ) → List Record

@@ -1,4 +1,5 @@
 // Writing listings: one instruction a line, with its notation as the remark (#104).
 mod hexes;
+mod lines;
 mod remarks;
 mod words;
