@@ -1,5 +1,7 @@
 //! The product, called through its host edge.
 
+use crate::second::encoding::Asked;
+
 // Nothing checks these declarations against the Rattle source: they are written
 // after the functions of crates/edge/src/ by hand, and the two change together.
 // A slice passes as its pointer and then its length.
@@ -33,6 +35,18 @@ extern "C" {
         table: u64,
         length: u64,
         filed: u64,
+    ) -> u64;
+
+    fn y86_encode(
+        bytes: *mut u8,
+        bytes_length: usize,
+        length: *mut u8,
+        length_length: usize,
+        code: u64,
+        function: u64,
+        ra: u64,
+        rb: u64,
+        constant: u64,
     ) -> u64;
 }
 
@@ -98,6 +112,25 @@ pub fn peaks(memory: &[u8], result: &mut [u8], table: u64, length: u64, filed: u
             table,
             length,
             filed,
+        )
+    }
+}
+
+/// The bytes of an instruction at the front of those lent, and their length as
+/// a word (#104); or a refusal by its number. 8 leaves the length needed.
+pub fn encode(bytes: &mut [u8], length: &mut [u8], asked: Asked) -> u64 {
+    // SAFETY: as above.
+    unsafe {
+        y86_encode(
+            bytes.as_mut_ptr(),
+            bytes.len(),
+            length.as_mut_ptr(),
+            length.len(),
+            asked.code,
+            asked.function,
+            asked.ra,
+            asked.rb,
+            asked.constant,
         )
     }
 }

@@ -12,6 +12,8 @@ use Rattle.peaks.specs.declared.Answer.{Answer}
 use Rattle.peaks.specs.Day.{judged}
 use Rattle.edge.specs.Edge.{Edge, replayed}
 use Rattle.day_edge.specs.Days.{DayAt, dayAnswer}
+use Rattle.encoding.specs.Encode.{Fields}
+use Rattle.writing_edge.specs.Writings.{Written, encoded}
 use Rattle.dayreport.specs.Program.{answeredInput}
 use Rattle.together.specs.Both.{BothAnswer, bothRuns}
 use Rattle.cases.specs.Names.{Codes, FetchAnswer, Machine, Pipeline}
@@ -84,6 +86,10 @@ day-judged = promising (Memory × ℕ × ℕ × ℕ) Answer (λ x. judged (x .0)
 -- edge::y86_peaks: the same with the result block as lent
 abbrev pub day-exported : Operation
 day-exported = promising (List ℕ × List ℕ × ℕ × ℕ × ℕ) DayAt (λ x. dayAnswer (x .0) (x .1) (x .2) (x .3) (x .4))
+
+-- edge::y86_encode: the bytes and their length as lent, and the instruction's fields
+abbrev pub instruction-encoded : Operation
+instruction-encoded = promising (List ℕ × List ℕ × Fields) Written (λ x. encoded (x .0) (x .1) (x .2))
 
 -- dayreport::report_input: the bytes read and the buffer; how many bytes are written, the buffer, and what is left of the bytes read
 abbrev pub input-reported : Operation

@@ -2,6 +2,8 @@
 ghost use mathlib.Core.Path.{_≡_};
 ghost use Rattle.day_edge.specs.Days.{dayAt, dayAnswer};
 ghost use Rattle.listing_edge.specs.Listings.{listingEdge, listingRead};
+ghost use Rattle.encoding.specs.Encode.{fields};
+ghost use Rattle.writing_edge.specs.Writings.{written, encoded};
 ghost use Rattle.edge.specs.Edge.{edge, replayed};
 
 // One pipelined run without logs from a fresh start.
@@ -63,4 +65,21 @@ pub extern "C" fn y86_peaks(
     ensures { λ r. ⌜ dayAt r (now (result .exit)) ≡ dayAnswer (now (memory .entry)) (now (result .entry)) table length filed ⌝ }
 {
     day_edge::judge_day(memory, result, table, length, filed)
+}
+
+// The bytes of an instruction, its one form (#104).
+#[no_mangle]
+pub extern "C" fn y86_encode(
+    bytes: &mut [u8],
+    length: &mut [u8],
+    code: u64,
+    function: u64,
+    ra: u64,
+    rb: u64,
+    constant: u64,
+) -> u64
+    ensures { λ r. ⌜ written r (now (bytes .exit)) (now (length .exit))
+        ≡ encoded (now (bytes .entry)) (now (length .entry)) (fields code function ra rb constant) ⌝ }
+{
+    writing_edge::encode(bytes, length, code, function, ra, rb, constant)
 }

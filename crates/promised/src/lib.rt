@@ -12,6 +12,8 @@ ghost use Rattle.machine.specs.Runs.{plainAnswer};
 ghost use Rattle.clocked.specs.PipeRuns.{pipeAnswer};
 ghost use Rattle.listing.specs.Reading.{answered};
 ghost use Rattle.day_edge.specs.Days.{dayAt};
+ghost use Rattle.encoding.specs.Encode.{fields};
+ghost use Rattle.writing_edge.specs.Writings.{written};
 ghost use Rattle.edge.specs.Edge.{edge};
 ghost use Rattle.listing_edge.specs.Listings.{listingEdge};
 ghost use Rattle.together.specs.Both.{startOf, bothAnswer};
@@ -19,7 +21,7 @@ ghost use Rattle.cases.specs.Promises.{Fits, fetching, plain-start, plain-step,
 ghost use Rattle.cases.specs.Listings.{listing-read, edge-listing};
 ghost use Rattle.cases.specs.Program.{report-image, image-run, write-report};
 ghost use Rattle.cases.specs.Promises.{pipe-start, pipe-clock, pipe-run, pipe-run-unlogged, host-edge, run-both};
-ghost use Rattle.cases.specs.Promises.{day-judged, day-exported, input-reported};
+ghost use Rattle.cases.specs.Promises.{day-judged, day-exported, instruction-encoded, input-reported};
 
 fn fetch(memory: &[u8], address: u64) -> FetchAnswer
     ensures { λ r. ⌜ Fits fetching (lent (now (memory .entry)), address) r ⌝ }
@@ -184,6 +186,21 @@ fn day_exported(memory: &[u8], result: &mut [u8], table: u64, length: u64, filed
     ensures { λ r. ⌜ Fits day-exported (now (memory .entry), now (result .entry), table, length, filed) (dayAt r (now (result .exit))) ⌝ }
 {
     edge::y86_peaks(memory, result, table, length, filed)
+}
+
+fn instruction_encoded(
+    bytes: &mut [u8],
+    length: &mut [u8],
+    code: u64,
+    function: u64,
+    ra: u64,
+    rb: u64,
+    constant: u64,
+) -> u64
+    ensures { λ r. ⌜ Fits instruction-encoded (now (bytes .entry), now (length .entry), fields code function ra rb constant)
+        (written r (now (bytes .exit)) (now (length .exit))) ⌝ }
+{
+    edge::y86_encode(bytes, length, code, function, ra, rb, constant)
 }
 
 fn input_reported(input: &mut [u8], out: &mut [u8; 144]) -> usize

@@ -9,6 +9,7 @@
 
 pub mod account;
 pub mod arithmetic;
+pub mod encoding;
 pub mod fetch;
 mod flow;
 pub mod letter;
