@@ -270,7 +270,9 @@ module _ (g : Core) (s : Plain) (K : ℕ) (p : Piped) (c : ℕ)
               hi = omega arith;
               codes = Signals.codes-bubble g p h ∙ k;
               read = λ r q _. Signals.source-bubble g p h q ∙ v .read r q;
-              hand = λ r i _. Signals.handed-bubble g (advanced g p) (Signals.m-bubble g p h) (decode i (source g p)) ∙ (Signals.source-bubble g p h (sourceA i) ∙ v .read r (sourceA i));
+              hand = λ r i _.
+                  Signals.handed-bubble g (advanced g p) (Signals.m-bubble g p h) (decode i (source g p))
+                  ∙ (Signals.source-bubble g p h (sourceA i) ∙ v .read r (sourceA i));
             }) d)
     into-M n v (fullE l k h t a) = fullM l (v .memory′) (Signals.m-in g p (steps s n) h k (unfailing n v l k h t)) (omega arith) (moved a)
       where
@@ -291,24 +293,33 @@ module _ (g : Core) (s : Plain) (K : ℕ) (p : Piped) (c : ℕ)
             hand′ : isStopped (steps s (suc n)) ≡ false → (i : Instruction) → loadsInto (p .pipeline .e) (awaitedA g i) ≡ false
                 → handedA g (afterM (advanced g p .pipeline .m) (advanced g p .memory)) (decode i (source g p))
                 ≡ value (steps s (suc n) .machine .registers) (sourceA i)
-            hand′ r i u = on ∙ go (takesLate g i) (meets (loadedTarget (decoded (steps s n) .instruction)) (sourceA i)) refl refl
+            hand′ r i u = on ∙ go (takesLate g i) met refl refl
               where
                 m′ : advanced g p .pipeline .m ≡ inM (executed (steps s n))
                 m′ = Signals.m-in g p (steps s n) h k (unfailing n v l k h t)
 
+                met : Bool
+                met = meets (loadedTarget (decoded (steps s n) .instruction)) (sourceA i)
+
                 given : ℕ
-                given =
-                    cond (takesLate g i && meets (loadedTarget (decoded (steps s n) .instruction)) (sourceA i)) (accessed (steps s n) .word) (source g p (sourceA i))
+                given = cond (takesLate g i && met) (accessed (steps s n) .word) (source g p (sourceA i))
 
                 on : handedA g (afterM (advanced g p .pipeline .m) (advanced g p .memory)) (decode i (source g p)) ≡ given
                 on =
-                    cc (Signals.handed-of g (advanced g p) (executed (steps s n)) m′ (decode i (source g p)), v .memory′, Laws.in-executed (steps s n),
-                    Laws.in-decoded (steps s n))
+                    cc (
+                      Signals.handed-of g (advanced g p) (executed (steps s n)) m′ (decode i (source g p)),
+                      v .memory′,
+                      Laws.in-executed (steps s n),
+                      Laws.in-decoded (steps s n),
+                    )
 
-                go : (b m : Bool) → takesLate g i ≡ b → meets (loadedTarget (decoded (steps s n) .instruction)) (sourceA i) ≡ m
-                    → given ≡ value (steps s (suc n) .machine .registers) (sourceA i)
+                go : (b m : Bool) → takesLate g i ≡ b → met ≡ m → given ≡ value (steps s (suc n) .machine .registers) (sourceA i)
                 go true true e f =
-                    cc (read-on n l r (sourceA i) (sourceM p (sourceA i)) (v .read (l .runs) (sourceA i)), Laws.in-accessed (steps s n), Laws.in-decoded (steps s n))
+                    cc (
+                      read-on n l r (sourceA i) (sourceM p (sourceA i)) (v .read (l .runs) (sourceA i)),
+                      Laws.in-accessed (steps s n),
+                      Laws.in-decoded (steps s n),
+                    )
                 go true false e f = cc (read′ r (sourceA i) (Signals.loadsInto-in g p (decoded (steps s n)) (sourceA i) h ∙ f))
                 go false m e f = cc (read′ r (sourceA i) (cc))
 

@@ -159,7 +159,9 @@ module _ (g : Core) (p : Piped) (h : Fits p) where
             (cond-any (λ d. refusedInD d ≡ false) (waits g p) _ _ (h .inD′)
             (cond-any (λ d. refusedInD d ≡ false) (returns p) _ _ refl (fetch-fits (p .memory) (fetchAddress g p) (h .bytes))));
         inE′ = cond-any (λ e. refusedInE e ≡ false) (mispredicts g p || waits g p) _ _ refl (decoded-fits g p (p .pipeline .d) (h .inD′));
-        inM′ = cond-any (λ m. refusedInM m ≡ false) (fails p) _ _ refl (executed-fits p (executing g p) (handed-fits g (afterM (p .pipeline .m) (p .memory)) (p .pipeline .e) (h .inE′)));
+        inM′ =
+            cond-any (λ m. refusedInM m ≡ false) (fails p) _ _ refl
+            (executed-fits p (executing g p) (handed-fits g (afterM (p .pipeline .m) (p .memory)) (p .pipeline .e) (h .inE′)));
         inW′ = accessed-fits p (p .pipeline .m) (h .inM′);
         kept = kept-fits (p .pipeline .w) (p .pipeline .kept) (h .inW′) (h .kept);
         set = h .set;

@@ -74,7 +74,12 @@ module _ (g : Core) (p : Piped) (c : ℕ) where
   -- the instruction i goes from D to E, and another is fetched behind it
   module _ (v : Decoding) (i : Instruction) (h : p .pipeline .d ≡ inD i) (w : waits g p ≡ false) (b : ℕ) (t : b ≡ c + 4) where
     x′ : Decoded
-    x′ = record { instruction = i; a = handedA g (afterM (advanced g p .pipeline .m) (advanced g p .memory)) (decode i (source g p)); b = source g p (sourceB i) }
+    x′ =
+        record {
+          instruction = i;
+          a = handedA g (afterM (advanced g p .pipeline .m) (advanced g p .memory)) (decode i (source g p));
+          b = source g p (sourceB i);
+        }
 
     e′ : executing g (advanced g p) ≡ inE x′
     unfolding x′ decode

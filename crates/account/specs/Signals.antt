@@ -10,8 +10,8 @@ use Rattle.machine.specs.Table.{is, ret}
 use Rattle.machine.specs.Stages.{decode, execute, access, newCodes, newMemory, newRegisters, loadedTarget, sourceA, sourceB, turned}
 use Rattle.machine.specs.Plain.{Plain, fetched, decoded, executed, accessed}
 use Rattle.clocked.specs.Prediction.{Core, predictedNext, mispredicted, meets, loadUse, takesLate, awaitedA}
-use Rattle.clocked.specs.Pipeline.{Piped, afterE, afterM, handedA, handed, executing, codesAfter, memoryAfter, registersAfter, pastResult, pastBoth, sourceW, sourceM}
-use Rattle.clocked.specs.Pipeline.{source, waitsBehind, waits, wrong, mispredicts, retInD, retInE, retInM, returns, badInW, fails}
+use Rattle.clocked.specs.Pipeline.{Piped, afterE, afterM, handedA, handed, executing, codesAfter, memoryAfter, registersAfter}
+use Rattle.clocked.specs.Pipeline.{pastResult, pastBoth, sourceW, sourceM, source, waitsBehind, waits, wrong, mispredicts, retInD, retInE, retInM, returns, badInW, fails}
 use Rattle.clocked.specs.Pipeline.{returnedTo, mended, fetchAddress, fetchedNow, nextF, nextD, decodedD, nextE, nextM, nextCodes, advanced}
 use Rattle.account.specs.Laws.{or-true, wrongAt}
 use Rattle.laws.specs.Tests.{neither}
@@ -74,23 +74,21 @@ module _ (g : Core) (p : Piped) where
   unfolding executing handed
   executing-of x h = cc
 
-  pub executing-bubble : p .pipeline .e ≡ bubbleE → executing g p ≡ bubbleE
-  unfolding executing handed
-  executing-bubble h = cc
-
-  pub stands : (x : Decoded) → executing g p ≡ inE x → (y : Decoded) × (p .pipeline .e ≡ inE y) × (y .instruction ≡ x .instruction)
+  stands : (x : Decoded) → executing g p ≡ inE x → (y : Decoded) × (p .pipeline .e ≡ inE y) × (y .instruction ≡ x .instruction)
   unfolding executing handed holdsOne
   stands x h = go (p .pipeline .e) refl h
     where
-      go : (e : StageE) → p .pipeline .e ≡ e → handed g (afterM (p .pipeline .m) (p .memory)) e ≡ inE x → (y : Decoded) × (p .pipeline .e ≡ inE y) × (y .instruction ≡ x .instruction)
+      go : (e : StageE) → p .pipeline .e ≡ e → handed g (afterM (p .pipeline .m) (p .memory)) e ≡ inE x
+          → (y : Decoded) × (p .pipeline .e ≡ inE y) × (y .instruction ≡ x .instruction)
       go bubbleE q k = absurd (true≢false (sym (ap holdsOne k)))
       go (inE y) q k = (y, q, cc)
 
   -- ... on the plain engine's own values
   module _ (s : Plain) where
-    -- the value of valA may come late
+    -- valA may come late
     pub e-in : waits g p ≡ false → mispredicts g p ≡ false → p .pipeline .d ≡ inD (fetched s)
-        → handedA g (afterM (advanced g p .pipeline .m) (advanced g p .memory)) (decode (fetched s) (source g p)) ≡ value (s .machine .registers) (sourceA (fetched s))
+        → handedA g (afterM (advanced g p .pipeline .m) (advanced g p .memory)) (decode (fetched s) (source g p))
+        ≡ value (s .machine .registers) (sourceA (fetched s))
         → source g p (sourceB (fetched s)) ≡ value (s .machine .registers) (sourceB (fetched s)) → executing g (advanced g p) ≡ inE (decoded s)
     unfolding decoded decode executing handed
     e-in w m h a b = cc (e-of (fetched s) w m h)

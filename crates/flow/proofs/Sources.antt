@@ -34,7 +34,7 @@ written-is (inW w) r = refl
 
 -- behind E and D: a bubble has 15 for its targets and sources, which meet nothing
 pub waits-is : (g : Core) (y : StageW) (e : StageE) (c : Codes) (d : StageD)
-    → (meets (targetsM (afterE (handed g y e) c) .loaded) (awaitedBy g d (sourcesD d .a)) || meets (targetsM (afterE (handed g y e) c) .loaded) (sourcesD d .b)) ≡ waitsBehind g e d
+    → let l = targetsM (afterE (handed g y e) c) .loaded in (meets l (awaitedBy g d (sourcesD d .a)) || meets l (sourcesD d .b)) ≡ waitsBehind g e d
 unfolding targetsM targetsOf afterE handed execute sourcesD waitsBehind awaitedBy awaitedA loadUse meets
 waits-is g y bubbleE c d = rw (meets-none (awaitedBy g d (sourcesD d .a)), meets-none (sourcesD d .b))
 waits-is g y (inE x) c bubbleD = refl

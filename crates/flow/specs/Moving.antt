@@ -13,7 +13,8 @@ use Rattle.machine.specs.Memory.{Memory, Registers, value}
 use Rattle.machine.specs.Fetch.{fetch}
 use Rattle.machine.specs.Stages.{decode}
 use Rattle.clocked.specs.Prediction.{Core, predictedNext, meets}
-use Rattle.clocked.specs.Pipeline.{afterE, afterM, handed, codesAfter, pastResult, pastBoth, waitsBehind, wrong, retInD, retInE, retInM, badInW, returnedTo, mended}
+use Rattle.clocked.specs.Pipeline.{afterE, afterM, handed, codesAfter, pastResult, pastBoth, waitsBehind, wrong, retInD, retInE, retInM, badInW}
+use Rattle.clocked.specs.Pipeline.{returnedTo, mended}
 use Rattle.stage.specs.declared.forwarding.Targets.{Targets}
 use Rattle.stage.specs.declared.forwarding.Sources.{Sources}
 use Rattle.stage.specs.Forwarding.{targetsM, targetsW, awaitedBy}

@@ -25,8 +25,8 @@ use Rattle.retiring.specs.declared.Tally.{Tally}
 use Rattle.retiring.specs.Retiring.{keptBy, retires, statusAfter, tallyAfter}
 
 -- why an instruction is charged, by its predecessor
-module _ (g : Core) (k : Retired) (j : Instruction) (l a s : ℕ) (b c : Bool) (el : l ≡ loadedTarget (k .instruction)) (ea : a ≡ awaitedA g j) (es : s ≡ sourceB j)
-    (eb : b ≡ (meets l a || meets l s)) where
+module _ (g : Core) (k : Retired) (j : Instruction) (l a s : ℕ) (b c : Bool) (el : l ≡ loadedTarget (k .instruction)) (ea : a ≡ awaitedA g j)
+    (es : s ≡ sourceB j) (eb : b ≡ (meets l a || meets l s)) where
   pub loaded-before : b ≡ true → waited ≡ reasonBehind g k j
   unfolding reasonBehind loadUse
   loaded-before h = cc

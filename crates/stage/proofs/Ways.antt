@@ -83,33 +83,24 @@ pub awaits-a : (g : Core) (i : Instruction) (b : Bool) (a : ℕ) → b ≡ takes
 unfolding awaitedA
 awaits-a g i b a e t p = cc
 
-pub handed-not : (g : Core) (w : StageW) (x : Decoded) (b : Bool) → b ≡ takesLate g (x .instruction) → not b ≡ true → x .a ≡ handedA g w x
+pub handed-not : (g : Core) (w : StageW) (x : Decoded) (b : Bool) → b ≡ takesLate g (x .instruction) → b ≡ false → x .a ≡ handedA g w x
 unfolding handedA
 handed-not g bubbleW x b e h = refl
-handed-not g (inW w) x true e h = cc
-handed-not g (inW w) x false e h = cc
+handed-not g (inW w) x b e h = cc
 
-module _ (g : Core) (w : StageW) (x : Decoded) (b : Bool) (e : b ≡ takesLate g (x .instruction)) (h : not b ≡ false) where
-  pub handed-bubble : w ≡ bubbleW → x .a ≡ handedA g w x
+pub handed-none : (g : Core) (w : StageW) (x : Decoded) → w ≡ bubbleW → x .a ≡ handedA g w x
+unfolding handedA
+handed-none g w x k = cc
+
+module _ (g : Core) (w : StageW) (x : Decoded) (b : Bool) (y : Accessed) (l q : ℕ) (m : Bool) (e : b ≡ takesLate g (x .instruction)) (h : b ≡ true)
+    (ew : w ≡ inW y) (el : l ≡ loadedTarget (y .instruction)) (eq : q ≡ sourceA (x .instruction)) (em : m ≡ meets l q) where
+  pub handed-word : m ≡ true → y .word ≡ handedA g w x
   unfolding handedA
-  handed-bubble k = cc
+  handed-word t = cc
 
-  module _ (y : Accessed) (l q : ℕ) (m : Bool) (ew : w ≡ inW y) (el : l ≡ loadedTarget (y .instruction)) (eq : q ≡ sourceA (x .instruction)) (em : m ≡ meets l q) where
-    pub handed-word : m ≡ true → y .word ≡ handedA g w x
-    unfolding handedA
-    handed-word t = go b e h
-      where
-        go : (b : Bool) → b ≡ takesLate g (x .instruction) → not b ≡ false → y .word ≡ handedA g w x
-        go true e h = cc
-        go false e h = cc
-
-    pub handed-unmet : m ≡ false → x .a ≡ handedA g w x
-    unfolding handedA
-    handed-unmet t = go b e h
-      where
-        go : (b : Bool) → b ≡ takesLate g (x .instruction) → not b ≡ false → x .a ≡ handedA g w x
-        go true e h = cc
-        go false e h = cc
+  pub handed-unmet : m ≡ false → x .a ≡ handedA g w x
+  unfolding handedA
+  handed-unmet t = cc
 
 pub meets-one : (l a b : ℕ) (x y : Bool) → x ≡ meets l a → y ≡ meets l b → (x || y) ≡ (meets l a || meets l b)
 meets-one l a b x y p q = cc

@@ -37,7 +37,6 @@ pub fn takes_late(settings: Settings, i: Instruction) -> bool
     settings.late & ((i.code == RMMOVQ) | (i.code == PUSHQ))
 }
 
-
 // Load-use: a loaded register is among the sources a and b of another instruction.
 pub fn meets_either(loaded: u8, a: u8, b: u8) -> bool
     ensures { λ r. ⌜ r ≡ (meetsOf loaded a || meetsOf loaded b) ⌝ }

@@ -28,19 +28,20 @@ fn handed_a(settings: Settings, w: StageW, x: Decoded) -> u64
     ensures { λ r. ⌜ r ≡ handedA (coreOf settings) w x ⌝ }
 {
     let i = x.instruction;
-    if !takes_late(settings, i) {
-        return x.a;
-    }
-    match w {
-        StageW::BubbleW => x.a,
-        StageW::InW(y) => {
-            let j = y.instruction;
-            if meets(loaded_target(j), source_a(i)) {
-                y.word
-            } else {
-                x.a
+    if takes_late(settings, i) {
+        match w {
+            StageW::BubbleW => x.a,
+            StageW::InW(y) => {
+                let j = y.instruction;
+                if meets(loaded_target(j), source_a(i)) {
+                    y.word
+                } else {
+                    x.a
+                }
             }
         }
+    } else {
+        x.a
     }
 }
 
