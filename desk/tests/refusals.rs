@@ -223,8 +223,9 @@ fn counts_above_the_cycles_are_refused() {
 /// machines too and beside other faults of the record. Starts take any rule.
 #[test]
 fn rules_over_two_are_refused() {
-    for rule in 0..=u8::MAX {
-        let settings = Settings { rule };
+    let both = |rule| [false, true].map(|late| Settings { rule, late });
+    for settings in (0..=u8::MAX).flat_map(both) {
+        let rule = settings.rule;
         let (registers, codes) = (Registers::default(), codes(4));
         let fresh = Pipeline::fresh(1, registers, codes, 0, settings).expect("a start");
         let by_letter = letter::Pipeline::fresh(1, registers, codes, 0, settings).expect("a start");
