@@ -28,7 +28,7 @@ const CLASSES: &Classes = &[
     ("plain answer", &["0", "1", "3", "4"]),
     ("pipeline record", &RECORDS),
     ("pipeline answer", &["0", "1", "3", "4", "5"]),
-    ("start answer", &["0", "1", "6"]),
+    ("start answer", &["0", "1", "5", "6"]),
     (
         "start with rule",
         &["0", "1", "2", "3", "4", "255", "another"],
@@ -84,7 +84,8 @@ fn number_name(answer: Result<(), Refusal>) -> &'static str {
     NUMBERS[answer.map_or_else(Refusal::number, |()| 0) as usize]
 }
 
-/// A fresh start of each engine, fast and by the letter.
+/// A fresh start of each engine, fast and by the letter; gives the answer of
+/// the pipelined one, which has the settings.
 fn compare_starts(size: u64, start: u64, settings: Settings) -> Result<(), Refusal> {
     let (registers, codes) = (Registers::default(), codes(4));
     let fast = Plain::fresh(size, registers, codes, start);

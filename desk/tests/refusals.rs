@@ -19,6 +19,11 @@ fn pipeline() -> Pipeline {
     common::pipeline(&[0x10], Registers::default(), codes(4), 0)
 }
 
+fn letter_pipeline() -> letter::Pipeline {
+    let (registers, settings) = (Registers::default(), Settings::default());
+    letter::Pipeline::fresh(1, registers, codes(4), 0, settings).expect("a start")
+}
+
 /// A plain run with a log of a length, all compared afterwards.
 fn plain_refusal(machine: Plain, size: usize, budget: u64, log: usize) -> Option<Refusal> {
     let (mut after, mut memory, mut lent) = (machine, vec![0x10; size], vec![9; log]);
@@ -220,32 +225,32 @@ fn counts_above_the_cycles_are_refused() {
 }
 
 /// #105: a rule number over 2 is refusal 5, after all lower numbers, on stopped
-/// machines too and beside other faults of the record. Starts take any rule.
+/// machines too and beside other faults of the record.
 #[test]
 fn rules_over_two_are_refused() {
     let both = |rule| [false, true].map(|late| Settings { rule, late });
     for settings in (0..=u8::MAX).flat_map(both) {
         let rule = settings.rule;
-        let (registers, codes) = (Registers::default(), codes(4));
-        let fresh = Pipeline::fresh(1, registers, codes, 0, settings).expect("a start");
-        let by_letter = letter::Pipeline::fresh(1, registers, codes, 0, settings).expect("a start");
-        assert_eq!(
-            (fresh.settings, by_letter.settings),
-            (settings, settings),
-            "a start keeps its settings"
-        );
         let expected = (rule > 2).then_some(Refusal::Record);
+        let given = Pipeline {
+            settings,
+            ..pipeline()
+        };
         let stopped = Pipeline {
             status: Status::Hlt,
-            ..fresh
+            ..given
         };
-        for machine in [fresh, stopped] {
+        for machine in [given, stopped] {
             assert_eq!(pipeline_refusal(machine, 1, 1, (1, 1)), expected, "{rule}");
         }
-        assert_eq!(by_letter.clone().clock(&mut [0x10]).err(), expected);
+        let mut by_letter = letter::Pipeline {
+            settings,
+            ..letter_pipeline()
+        };
+        assert_eq!(by_letter.clock(&mut [0x10]).err(), expected);
         let spoilt = Pipeline {
             retired: 1,
-            ..fresh
+            ..given
         };
         let refused = [
             (0, 0, (0, 0), Refusal::Memory),
@@ -256,6 +261,35 @@ fn rules_over_two_are_refused() {
         for (size, budget, logs, lowest) in refused {
             let answer = pipeline_refusal(spoilt, size, budget, logs);
             assert_eq!(answer, Some(lowest), "{rule}");
+        }
+    }
+}
+
+/// #105: a fresh start with a rule number over 2 is refusal 5, after 1 and
+/// before 6; with one of the three, it keeps it. By the letter too.
+#[test]
+fn fresh_starts_are_refused_for_the_rule() {
+    let (registers, codes) = (Registers::default(), codes(4));
+    for rule in 0..=u8::MAX {
+        let settings = Settings { rule };
+        let of_rule = (rule > 2).then_some(Refusal::Record);
+        let cases = [
+            (0, 0, Some(Refusal::Memory)),
+            (65_537, u64::MAX, Some(Refusal::Memory)),
+            (1, 0, of_rule),
+            (65_536, 65_535, of_rule),
+            (1, 1, of_rule.or(Some(Refusal::Start))),
+            (65_536, u64::MAX, of_rule.or(Some(Refusal::Start))),
+        ];
+        for (size, start, expected) in cases {
+            let fast = Pipeline::fresh(size, registers, codes, start, settings);
+            let by_letter = letter::Pipeline::fresh(size, registers, codes, start, settings);
+            let answers = [
+                fast.map(|machine| machine.settings),
+                by_letter.map(|machine| machine.settings),
+            ];
+            let kept = expected.map_or(Ok(settings), Err);
+            assert_eq!(answers, [kept; 2], "rule {rule}, {start} in {size} bytes");
         }
     }
 }

@@ -39,7 +39,7 @@ inputText input (asks q) = requestText q (drop (q .image) input)
 
 unfoldable pub inputLeft : List ℕ → FirstLine → List ℕ
 inputLeft input badLine = input
-inputLeft input (asks q) = take (q .image) input ++ imageRun (drop (q .image) input) .memory
+inputLeft input (asks q) = take (q .image) input ++ imageRun (drop (q .image) input) .memory .bytes
 
 -- THE BYTES THAT ARE WRITTEN for the bytes that were read
 unfoldable pub writtenFor : List ℕ → List ℕ

@@ -104,6 +104,7 @@ fn host_edge(
 }
 
 fn both(
+    settings: Settings,
     registers: [u64; REGISTERS],
     codes: Codes,
     address: u64,
@@ -149,7 +150,7 @@ fn report_image(image: &mut [u8], out: &mut [u8; 652]) -> usize
 }
 
 fn run_image(image: &mut [u8]) -> pipe::Answer
-    ensures { λ r. ⌜ Fits image-run (now (image .entry)) (pipeAnswer (r .number) (r .pipeline) (now (image .exit)) [] []) ⌝ }
+    ensures { λ r. ⌜ Fits image-run (now (image .entry)) (pipeAnswer (r .number) (r .pipeline) (lent (now (image .exit))) [] []) ⌝ }
 {
     report::run_image(image)
 }

@@ -10,6 +10,7 @@ use Rattle.clocked.specs.declared.Settings.{Settings}
 use Rattle.clocked.specs.declared.Pipeline.{Pipeline}
 use Rattle.machine.specs.Memory.{lent}
 use Rattle.clocked.specs.Prediction.{asIn01}
+use Rattle.clocked.specs.Pipeline.{pipeStart}
 use Rattle.clocked.specs.PipeRuns.{pipeStarted, PipeAnswer, pipeAnswer, pipeRunUnlogged}
 use Rattle.text.specs.Bytes.{bytes}
 use Rattle.text.specs.Put.{Put, put-both, put-front, written}

@@ -21,7 +21,7 @@ use Rattle.report_lines.specs.Lines.{line}
 use Rattle.report.specs.Report.{report, imageRefused, imageStart, imageRun, reported, replayed}
 
 -- an image that the program holds is one that the engines take
-taken : (image : Memory) → imageRefused (length image) ≡ false → sizeRefused (length image) ≡ false
+taken : (image : List ℕ) → imageRefused (length image) ≡ false → sizeRefused (length image) ≡ false
 unfolding imageRefused sizeRefused
 taken image h =
     let p = neither (eqb (length image) 0) (ltb 4096 (length image)) h in

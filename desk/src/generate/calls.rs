@@ -138,7 +138,7 @@ impl Calls {
         (size, start)
     }
 
-    /// Settings for a fresh start, refused ones too, which a start takes.
+    /// Settings for a fresh start, refused ones too.
     pub fn settings(&mut self) -> Settings {
         let allowed = settings(&mut self.random);
         let refused = Settings {

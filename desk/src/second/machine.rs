@@ -102,10 +102,9 @@ pub fn check_memory(size: u64) -> Result<(), Refusal> {
     Ok(())
 }
 
-/// Refusals 1 and 6: a fresh start in a memory of this size. The address is
+/// Refusal 6: the address of a fresh start in a memory of this size. It is
 /// looked at last, and only here: a run that goes on does not ask again.
 pub fn check_start(size: u64, start: u64) -> Result<(), Refusal> {
-    check_memory(size)?;
     if start >= size {
         return Err(Refusal::Start);
     }

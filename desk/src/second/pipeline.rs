@@ -27,8 +27,16 @@ pub struct Settings {
 }
 
 impl Settings {
-    /// The last of the three rules; a number over it is refusal 5.
+    /// The last of the three rules.
     pub const LAST_RULE: u8 = 2;
+
+    /// Refusal 5, of the settings: a rule number other than the three.
+    pub fn check(self) -> Result<(), Refusal> {
+        if self.rule > Settings::LAST_RULE {
+            return Err(Refusal::Record);
+        }
+        Ok(())
+    }
 }
 
 /// The pipelined machine's record; its memory is lent at each call.
@@ -62,7 +70,7 @@ pub struct Logs<'a> {
 
 impl Pipeline {
     /// A fresh start in a memory of this size: F holds the start address and
-    /// the rest are bubbles. Any settings are taken: the runs refuse them.
+    /// the rest are bubbles. It can meet refusals 1, 5 and 6.
     pub fn fresh(
         size: u64,
         registers: Registers,
@@ -70,6 +78,8 @@ impl Pipeline {
         start: u64,
         settings: Settings,
     ) -> Result<Pipeline, Refusal> {
+        check_memory(size)?;
+        settings.check()?;
         check_start(size, start)?;
         Ok(Pipeline {
             predicted: start,
@@ -161,11 +171,9 @@ impl Pipeline {
             .max(kinds.mispredict)
             .max(kinds.returns);
         let instructions_known = held.iter().flatten().all(Instruction::is_known);
-        let rule_known = self.settings.rule <= Settings::LAST_RULE;
-        if instructions_known && highest <= self.cycles && rule_known {
-            Ok(())
-        } else {
-            Err(Refusal::Record)
+        if !instructions_known || highest > self.cycles {
+            return Err(Refusal::Record);
         }
+        self.settings.check()
     }
 }

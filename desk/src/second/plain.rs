@@ -31,6 +31,7 @@ impl Plain {
         codes: Codes,
         start: u64,
     ) -> Result<Plain, Refusal> {
+        check_memory(size)?;
         check_start(size, start)?;
         Ok(Plain {
             registers,

@@ -1,4 +1,4 @@
-//! Whole records in blocks of words, as the head of crates/trial/src/lib.rt
+//! Whole records in blocks of words, as the head of crates/blocks_in/src/lib.rt
 //! lays them out.
 
 use desk::second::arithmetic::Codes;

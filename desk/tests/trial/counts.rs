@@ -21,7 +21,6 @@ const SIZES: [&str; 7] = [
     "65536",
 ];
 const ADDRESSES: [&str; 2] = ["inside", "outside"];
-const START_REASONS: [&str; 4] = ["nothing", "1", "6", "1+6"];
 const LIMITS: [&str; 2] = ["not reached", "reached"];
 const LOGS: [&str; 3] = ["as long as the budget", "longer", "shorter"];
 const HELD: [&str; 14] = [
@@ -40,8 +39,11 @@ pub const CLASSES: &Classes = &[
         &["nothing", "1", "3", "1+3", "4", "1+4", "3+4", "1+3+4"],
     ),
     ("plain::step refused for", &["nothing", "1", "3", "1+3"]),
-    ("plain::start refused for", &START_REASONS),
-    ("pipe::start refused for", &START_REASONS),
+    ("plain::start refused for", &["nothing", "1", "6", "1+6"]),
+    (
+        "pipe::start refused for",
+        &["nothing", "1", "5", "1+5", "6", "1+6", "5+6", "1+5+6"],
+    ),
     (
         "pipe::run refused for",
         &[

@@ -121,6 +121,10 @@ pub trait Engine: Record + Block {
     /// The heading under which refused starts are counted.
     const START_REFUSED: &'static str;
 
+    /// Every refusal that applies to a fresh start with this record's settings,
+    /// by the letter.
+    fn start_reasons(&self, size: u64, start: u64) -> Vec<Refusal>;
+
     /// A fresh start with this record's registers, codes and settings in a memory
     /// of this size, by the product: over this record's block, so that a word left
     /// over shows. Answers 0 or the number of the refusal.
@@ -137,6 +141,10 @@ impl Engine for Machine {
     }
 
     const START_REFUSED: &'static str = "plain::start refused for";
+
+    fn start_reasons(&self, size: u64, start: u64) -> Vec<Refusal> {
+        Machine::start_reasons(size, start)
+    }
 
     fn start_by_product(&mut self, size: u64, start: u64) -> u64 {
         in_block(self, |block| unsafe {
@@ -157,6 +165,10 @@ impl Engine for Pipeline {
     }
 
     const START_REFUSED: &'static str = "pipe::start refused for";
+
+    fn start_reasons(&self, size: u64, start: u64) -> Vec<Refusal> {
+        Pipeline::start_reasons(size, start, self.settings)
+    }
 
     fn start_by_product(&mut self, size: u64, start: u64) -> u64 {
         in_block(self, |block| unsafe {

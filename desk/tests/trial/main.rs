@@ -20,7 +20,6 @@ use common::settings;
 use common::tally::Tally;
 use counts::{reasons_name, Compared, Counted, CLASSES};
 use desk::generate::{Call, Calls, Way};
-use desk::second::letter::of_start;
 use desk::second::Status;
 use entries::{Engine, Entry, PIPE_CLOCK, PIPE_RUN, PIPE_RUN_UNLOGGED, PLAIN_RUN, PLAIN_STEP};
 use std::time::Instant;
@@ -154,8 +153,9 @@ impl Trial {
                 "{name}: a refused start has changed something"
             );
         }
-        let reasons = reasons_name(&of_start(size, start));
-        self.tally.count(R::START_REFUSED, reasons);
+        let reasons = given.start_reasons(size, start);
+        assert_eq!(answer == 0, reasons.is_empty(), "{name}");
+        self.tally.count(R::START_REFUSED, reasons_name(&reasons));
     }
 
     /// A run cut in two: the second part is lent what the first left of the

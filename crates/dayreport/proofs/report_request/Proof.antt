@@ -28,10 +28,13 @@ same-length c = search needs
 
 returns-2 : tie.Need-returns-2
 returns-2 c =
-    request-done (c .before .before .before .before .before .before .before .before .before .before .before .args .request) _ _ _
-    (c .before .before .before .before .before .before .before .before .before .image-refused .ensures) _ _ _ _
-    (c .before .before .before .before .before .before .before .before .if1 .left)
-    (c .before .before .before .before .before .before .run-image .ensures) (c .before .before .judge .ensures) (c .write-answer .ensures)
+    let judged : tie.After-judge = search in
+    let ran : tie.After-run-image = search in
+    let let-in : tie.Else1 = search in
+    let tested : tie.After-image-refused = search in
+    let start : tie.Start = search in
+    request-done (start .args .request) _ _ _ (tested .image-refused .ensures) _ _ _ _ (let-in .if1 .left) (ran .run-image .ensures)
+    (judged .judge .ensures) (c .write-answer .ensures)
 
 pub report-request-spec : {M : Type 1} → statement M
 report-request-spec =

@@ -22,4 +22,3 @@ pub use fetch::fetch_open;
 pub use instruction::Instruction;
 pub use pipeline::{Accessed, Decoded, Executed, Pipeline, Retired};
 pub use plain::Machine;
-pub use refusals::of_start;

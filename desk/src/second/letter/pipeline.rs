@@ -1,6 +1,6 @@
 //! The pipelined engine by the letter: its record and its runs.
 
-use super::refusals::{lowest, of_budget, of_logs, of_memory, of_start};
+use super::refusals::{lowest, of_budget, of_logs, of_memory, of_size, of_start};
 use super::Instruction;
 use crate::second::arithmetic::Codes;
 use crate::second::machine::{Refusal, Registers, Status, CYCLE_LIMIT};
@@ -62,8 +62,8 @@ pub struct Pipeline {
 }
 
 impl Pipeline {
-    /// A fresh start in a memory of this size, with any settings: F holds the
-    /// start address and the rest are bubbles.
+    /// A fresh start in a memory of this size: F holds the start address and
+    /// the rest are bubbles.
     pub fn fresh(
         size: u64,
         registers: Registers,
@@ -71,7 +71,7 @@ impl Pipeline {
         start: u64,
         settings: Settings,
     ) -> Result<Pipeline, Refusal> {
-        lowest(&of_start(size, start))?;
+        lowest(&Pipeline::start_reasons(size, start, settings))?;
         Ok(Pipeline {
             predicted: start,
             d: None,
@@ -88,6 +88,12 @@ impl Pipeline {
             kept: None,
             settings,
         })
+    }
+
+    /// Every refusal that applies to a fresh start.
+    pub fn start_reasons(size: u64, start: u64, settings: Settings) -> Vec<Refusal> {
+        let all = [of_size(size), of_settings(settings), of_start(size, start)];
+        all.into_iter().flatten().collect()
     }
 
     /// The instructions in D, E, M and W and the kept one, in this order.
@@ -123,7 +129,7 @@ impl Pipeline {
         let instructions = self.instructions();
         let allowed = instructions.iter().flatten().all(Instruction::is_allowed)
             && counts.iter().all(|count| *count <= self.cycles)
-            && [0, 1, 2].contains(&self.settings.rule);
+            && of_settings(self.settings).is_none();
         (!allowed).then_some(Refusal::Record)
     }
 
@@ -156,4 +162,9 @@ impl Pipeline {
         }
         Ok(())
     }
+}
+
+/// Refusal 5, of a rule number other than the three (#105).
+fn of_settings(settings: Settings) -> Option<Refusal> {
+    (![0, 1, 2].contains(&settings.rule)).then_some(Refusal::Record)
 }

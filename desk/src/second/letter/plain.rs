@@ -1,6 +1,6 @@
 //! The plain engine by the letter.
 
-use super::refusals::{lowest, of_budget, of_logs, of_memory, of_start};
+use super::refusals::{lowest, of_budget, of_logs, of_memory, of_size, of_start};
 use super::work::{codes_after, holds, result, Access};
 use super::{fetch, Instruction};
 use crate::second::arithmetic::Codes;
@@ -26,7 +26,7 @@ impl Machine {
         codes: Codes,
         start: u64,
     ) -> Result<Machine, Refusal> {
-        lowest(&of_start(size, start))?;
+        lowest(&Machine::start_reasons(size, start))?;
         Ok(Machine {
             registers,
             codes,
@@ -35,6 +35,12 @@ impl Machine {
             last: start,
             count: 0,
         })
+    }
+
+    /// Every refusal that applies to a fresh start.
+    pub fn start_reasons(size: u64, start: u64) -> Vec<Refusal> {
+        let all = [of_size(size), of_start(size, start)];
+        all.into_iter().flatten().collect()
     }
 
     /// Every refusal that applies to a run; logs is empty for one without.

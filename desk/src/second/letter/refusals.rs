@@ -2,20 +2,19 @@
 
 use crate::second::machine::{Refusal, MEMORY_LIMIT};
 
-/// Refusal 1, of the memory's size.
+/// Refusal 1, of the lent memory.
 pub fn of_memory(memory: &[u8]) -> Option<Refusal> {
     of_size(memory.len() as u64)
 }
 
-fn of_size(size: u64) -> Option<Refusal> {
+/// Refusal 1, of a memory's size.
+pub fn of_size(size: u64) -> Option<Refusal> {
     (size == 0 || size > MEMORY_LIMIT as u64).then_some(Refusal::Memory)
 }
 
-/// Every refusal that applies to a fresh start in a memory of this size: 1, and
-/// 6 for an address that is not below N.
-pub fn of_start(size: u64, start: u64) -> Vec<Refusal> {
-    let outside = (start >= size).then_some(Refusal::Start);
-    of_size(size).into_iter().chain(outside).collect()
+/// Refusal 6, of a fresh start's address that is not below N.
+pub fn of_start(size: u64, start: u64) -> Option<Refusal> {
+    (start >= size).then_some(Refusal::Start)
 }
 
 /// Refusal 3, of the budget with what was spent before.
