@@ -10,7 +10,8 @@ use desk::second::machine::Status;
 use desk::second::pipeline::{Kinds, Logs, Pipeline, Settings};
 use desk::second::plain::Plain;
 use desk::second::replay::read_registers;
-use desk::second::table::{IADDQ, JXX};
+use desk::second::table::{IADDQ, JXX, MRMOVQ, POPQ};
+use std::collections::BTreeMap;
 
 /// Programs of each kind that the account is tried on; of large ones a tenth.
 const PROGRAMS: usize = 6_000;
@@ -27,6 +28,8 @@ struct Seen {
     stops: [usize; 5],
     added: Added,
     guessed: Guessed,
+    /// Stores and calls behind loads of a register of theirs, charged or not.
+    stores: BTreeMap<(&'static str, bool), usize>,
 }
 
 /// The iaddq among them: how many, by -2^63, by 2^63 - 1, and charged for a
@@ -92,6 +95,28 @@ impl Guessed {
         };
         let enough = |count: &usize| *count > 20;
         guesses.iter().flatten().all(enough) && [self.to_next, self.top_bit].iter().all(enough)
+    }
+}
+
+/// What a store has of the register loaded just before it, and whether it is
+/// charged for that.
+fn behind_a_load([load, store]: [&Performed; 2]) -> Option<(&'static str, bool)> {
+    let load = load
+        .parts
+        .filter(|parts| matches!(parts.code, MRMOVQ | POPQ))?;
+    let parts = store.parts?;
+    let name = settings::store_name(load.ra, parts.code, (parts.ra, parts.rb))?;
+    Some((name, store.charge == Some(Charge::LoadUse)))
+}
+
+/// Every kind of store behind a load has turned up often, charged only where it
+/// waits.
+fn check_stores(settings: Settings, seen: &BTreeMap<(&'static str, bool), usize>) {
+    assert_eq!(seen.len(), settings::STORES.len());
+    for (number, name) in settings::STORES.into_iter().enumerate() {
+        let stored_only = number == 0 || number == 3;
+        let count = seen.get(&(name, !(settings.late && stored_only)));
+        assert!(count.is_some_and(|count| *count > 20), "{name}: {count:?}");
     }
 }
 
@@ -166,6 +191,7 @@ fn compare_kind(kind: Kind, settings: Settings) {
     }
     if kind == Kind::Charges {
         assert!(seen.guessed.is_full(settings), "{:?}", seen.guessed);
+        check_stores(settings, &seen.stores);
     }
 }
 
@@ -214,6 +240,9 @@ fn count_performed(performed: &[Performed], settings: Settings, seen: &mut Seen)
     }
     for pair in performed.windows(2) {
         seen.guessed.count(settings, [&pair[0], &pair[1]]);
+        if let Some(store) = behind_a_load([&pair[0], &pair[1]]) {
+            *seen.stores.entry(store).or_default() += 1;
+        }
     }
 }
 

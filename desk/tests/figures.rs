@@ -2,7 +2,9 @@
 
 mod common;
 
-use common::{codes, pipeline, plain, registers, rsp, run_pipeline, run_plain, run_with, word};
+use common::{
+    codes, pipeline, plain, registers, rsp, run_pipeline, run_plain, run_with, settings, word,
+};
 use desk::programs::{figure_4_8, from_hex, listing_001, listing_004, stretched_004};
 use desk::second::account::Account;
 use desk::second::arithmetic::operate;
@@ -317,13 +319,13 @@ fn jumps_are_charged_by_the_rule() {
         (4, u64::MAX, [2, 0, 0]),
     ];
     for (function, constant, charges) in cases {
-        for (rule, charge) in charges.into_iter().enumerate() {
+        for settings in settings::ALL {
+            let charge = charges[usize::from(settings.rule)];
             // At 0 jmp 9, where the jump is; from 18 on nop and halt.
             let mut image = from_hex("700900000000000000 00");
             image[9] = 0x70 | function;
             image.extend(constant.to_le_bytes());
             image.extend([0x10, 0x00]);
-            let settings = Settings { rule: rule as u8 };
             let ran = run_with(&image, Registers::default(), settings);
             let second = (ran.addresses[2], ran.cycles[2]);
             let goes_to = if function == 3 { constant } else { 18 };
@@ -336,32 +338,30 @@ fn jumps_are_charged_by_the_rule() {
     }
 }
 
-/// #105: the listings by every rule. That of 001 has one conditional jump, on
+/// #105, and #106, which has no part in them: the listings by every setting.
+/// That of 001 has one conditional jump, on
 /// and not taken; that of 004 a je on, not taken, and a jne back, taken three
 /// times and not the fourth.
 #[test]
-fn the_listings_by_every_rule() {
-    for (rule, charged) in [(0, 2), (1, 0), (2, 0)] {
-        let ran = run_with(&listing_001(), Registers::default(), Settings { rule });
+fn the_listings_by_every_setting() {
+    let first = run_pipeline(&listing_004(), Registers::default());
+    for settings in settings::ALL {
+        let charged = [2, 0, 0][usize::from(settings.rule)];
+        let ran = run_with(&listing_001(), Registers::default(), settings);
         assert_eq!(
             (ran.kinds(), ran.machine.cycles),
             ((0, charged, 3), 18 + charged)
         );
         assert_eq!((ran.machine.retired, ran.machine.last), (11, 0x40));
         assert_eq!(word(&ran.memory, 120), 64);
-    }
-    let first = run_pipeline(&listing_004(), Registers::default());
-    for (rule, charged) in [(0, 4), (1, 6), (2, 2)] {
-        let ran = run_with(&listing_004(), Registers::default(), Settings { rule });
+        let charged = [4, 6, 2][usize::from(settings.rule)];
+        let ran = run_with(&listing_004(), Registers::default(), settings);
         assert_eq!(
             (ran.kinds(), ran.machine.cycles),
             ((5, charged, 6), 48 + charged)
         );
-        assert_eq!(
-            (ran.addresses, ran.memory),
-            (first.addresses.clone(), first.memory.clone())
-        );
         assert_eq!(ran.machine.registers, first.machine.registers);
+        assert!(ran.addresses == first.addresses && ran.memory == first.memory);
     }
 }
 
@@ -369,15 +369,72 @@ fn the_listings_by_every_rule() {
 /// below its next address.
 #[test]
 fn the_unconditional_jump_is_never_charged() {
-    for rule in 0..3 {
+    for settings in settings::ALL {
         for constant in [9_u64, 10, 11] {
             let mut image = vec![0x70];
             image.extend(constant.to_le_bytes());
             image.extend([0x10, 0x10, 0x00]);
-            let ran = run_with(&image, Registers::default(), Settings { rule });
+            let ran = run_with(&image, Registers::default(), settings);
             assert_eq!((ran.addresses[1], ran.cycles[1]), (constant, 6));
             assert_eq!((ran.kinds(), ran.machine.status), ((0, 0, 0), Status::Hlt));
         }
+    }
+}
+
+/// #106: what a store, a call or another follower is charged behind a load,
+/// without late store data and with it. rsp is 64, where 80 lies, so that popq
+/// of rsp has 72 as a result and 80 as the word loaded.
+#[test]
+fn stores_wait_for_their_address_alone() {
+    let cases = [
+        ("b00f 4001 6000000000000000", [1, 0]), // popq %rax; rmmovq %rax, 96(%rcx)
+        ("b01f 4001 0000000000000000", [1, 1]), // popq %rcx; rmmovq %rax, (%rcx)
+        ("b00f 4000 0000000000000000", [1, 1]), // popq %rax; rmmovq %rax, (%rax)
+        ("b04f 4041 6000000000000000", [1, 0]), // popq %rsp; rmmovq %rsp, 96(%rcx)
+        ("b04f 4004 0000000000000000", [1, 1]), // popq %rsp; rmmovq %rax, (%rsp)
+        ("b00f a00f", [1, 0]),                  // popq %rax; pushq %rax
+        ("b04f a00f", [1, 1]),                  // popq %rsp; pushq %rax
+        ("b04f a04f", [1, 1]),                  // popq %rsp; pushq %rsp
+        ("b04f 800b00000000000000", [1, 1]),    // popq %rsp; call of the next
+        ("b00f 2002", [1, 1]),                  // popq %rax; rrmovq %rax, %rdx
+        ("b00f 10 a00f", [0, 0]),               // popq %rax; nop; pushq %rax
+        // mrmovq 64(%rcx), %rax; then a store of it, a push of it, a store at it
+        ("5001 4000000000000000 4001 6000000000000000", [1, 0]),
+        ("5001 4000000000000000 a00f", [1, 0]),
+        ("5001 4000000000000000 4020 0000000000000000", [1, 1]),
+    ];
+    for (code, charges) in cases {
+        let mut image = from_hex(code);
+        let end = image.len() as u64;
+        image.resize(128, 0);
+        image[64] = 80;
+        let given = registers(&[(0, 7), (2, 9), (RSP, 64)]);
+        let (plain, memory) = run_plain(&image, given);
+        for settings in settings::ALL {
+            let ran = run_with(&image, given, settings);
+            let charge = charges[usize::from(settings.late)];
+            assert_eq!(ran.kinds(), (charge, 0, 0), "{code} {settings:?}");
+            assert_eq!(ran.machine.cycles, ran.machine.retired + 4 + charge);
+            assert_eq!((ran.machine.status, ran.machine.last), (Status::Hlt, end));
+            assert_eq!(
+                ran.machine.registers, plain.registers,
+                "{code} {settings:?}"
+            );
+            assert_eq!(ran.memory, memory, "{code} {settings:?}");
+        }
+    }
+}
+
+/// #106: nothing is stored behind a load outside memory.
+#[test]
+fn a_failing_load_hands_nothing_to_a_store() {
+    // popq %rax, outside; rmmovq %rax, 16(%rcx)
+    let mut image = from_hex("b00f 4001 1000000000000000 00");
+    image.resize(32, 3);
+    for settings in settings::ALL {
+        let ran = run_with(&image, registers(&[(RSP, 25)]), settings);
+        assert_eq!((ran.machine.status, ran.machine.last), (Status::Adr, 0));
+        assert_eq!((ran.memory, ran.machine.retired), (image.clone(), 1));
     }
 }
 

@@ -33,6 +33,7 @@ const CLASSES: &Classes = &[
         "start with rule",
         &["0", "1", "2", "3", "4", "255", "another"],
     ),
+    ("start with late store data", &["no", "yes"]),
 ];
 
 #[test]
@@ -59,6 +60,8 @@ fn the_fast_engines_are_the_letters_equal() {
         let answer = compare_starts(size, start, given);
         tally.count("start answer", number_name(answer));
         tally.count("start with rule", settings::rule_name(given.rule));
+        let late = if given.late { "yes" } else { "no" };
+        tally.count("start with late store data", late);
     }
     println!("compared {CALLS} calls of each engine, and as many starts");
     let classes = [CLASSES, settings::CLASSES].concat();

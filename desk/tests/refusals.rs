@@ -224,12 +224,18 @@ fn counts_above_the_cycles_are_refused() {
     );
 }
 
+/// Every rule number, without late store data and with it.
+fn any_settings() -> impl Iterator<Item = Settings> {
+    let both = |rule| [false, true].map(|late| Settings { rule, late });
+    (0..=u8::MAX).flat_map(both)
+}
+
 /// #105: a rule number over 2 is refusal 5, after all lower numbers, on stopped
 /// machines too and beside other faults of the record.
 #[test]
 fn rules_over_two_are_refused() {
-    for rule in 0..=u8::MAX {
-        let settings = Settings { rule };
+    for settings in any_settings() {
+        let rule = settings.rule;
         let expected = (rule > 2).then_some(Refusal::Record);
         let given = Pipeline {
             settings,
@@ -269,8 +275,8 @@ fn rules_over_two_are_refused() {
 #[test]
 fn fresh_starts_are_refused_for_the_rule() {
     let (registers, codes) = (Registers::default(), codes(4));
-    for rule in 0..=u8::MAX {
-        let settings = Settings { rule };
+    for settings in any_settings() {
+        let rule = settings.rule;
         let of_rule = (rule > 2).then_some(Refusal::Record);
         let cases = [
             (0, 0, Some(Refusal::Memory)),

@@ -1,20 +1,20 @@
 -- One clock in which nothing stops preserves the relation: one lemma a level, each splitting its own level only.
 use Prim.Native.Nat.{ℕ, suc, _+_, _≤_, _<_}
-use mathlib.Core.Bool.{Bool, true, false, true≢false}
+use mathlib.Core.Bool.{Bool, true, false, cond, _&&_, true≢false}
 use mathlib.Core.Logic.{inl, inr}
 use mathlib.Core.Path.{_≡_, refl, ap, sym, _∙_, subst}
 use native.Mathlib.Omega.{arith}
 use native.Mathlib.Decide.{decLt}
 use lib.ListN.{length}
-use Rattle.account.specs.Names.{StageD, bubbleD, inD, StageE, bubbleE, inE, bubbleM, inM, bubbleW, inW}
+use Rattle.account.specs.Names.{Instruction, StageD, bubbleD, inD, StageE, bubbleE, inE, bubbleM, inM, bubbleW, inW}
 use Rattle.machine.specs.Memory.{value}
 use Rattle.machine.specs.Table.{is, ret}
 use Rattle.machine.specs.Fetch.{fetch}
-use Rattle.machine.specs.Stages.{sourceA, sourceB}
+use Rattle.machine.specs.Stages.{decode, sourceA, sourceB, loadedTarget}
 use Rattle.machine.specs.Plain.{Plain, isStopped, fetched, decoded, executed, accessed, steps}
-use Rattle.clocked.specs.Prediction.{Core}
+use Rattle.clocked.specs.Prediction.{Core, meets, takesLate, awaitedA}
 use Rattle.clocked.specs.Charges.{due}
-use Rattle.clocked.specs.Pipeline.{Piped, waits, mispredicts, fails, returns, retInE, retInM}
+use Rattle.clocked.specs.Pipeline.{Piped, afterM, handedA, executing, waits, mispredicts, fails, returns, retInE, retInM}
 use Rattle.clocked.specs.Pipeline.{fetchAddress, fetchedNow, source, sourceM, sourceW, pastBoth, advanced}
 use Rattle.clock_laws.specs.Registers.{value-after}
 use Rattle.account.specs.Laws
@@ -115,7 +115,10 @@ module _ (g : Core) (s : Plain) (K : ℕ) (p : Piped) (c : ℕ)
     lo : j ≤ n
     hi : n ≤ j + 2
     codes : advanced g p .pipeline .codes ≡ steps s n .machine .codes
-    read : isStopped (steps s n) ≡ false → (q : ℕ) → loadsInto (p .pipeline .e) q ≡ false → source p q ≡ value (steps s n .machine .registers) q
+    read : isStopped (steps s n) ≡ false → (q : ℕ) → loadsInto (p .pipeline .e) q ≡ false → source g p q ≡ value (steps s n .machine .registers) q
+    -- of an instruction that does not wait, valA is read in D or handed over in E
+    hand : isStopped (steps s n) ≡ false → (i : Instruction) → loadsInto (p .pipeline .e) (awaitedA g i) ≡ false
+        → handedA g (afterM (advanced g p .pipeline .m) (advanced g p .memory)) (decode i (source g p)) ≡ value (steps s n .machine .registers) (sourceA i)
 
   -- an instruction held in D keeps the fetch address behind it
   hold-F : (n : ℕ) → waits g p ≡ true → mispredicts g p ≡ false → retInM (p .pipeline .m) ≡ false → AtF g s K p c n → AtF g s K (advanced g p) (suc c) n
@@ -164,11 +167,11 @@ module _ (g : Core) (s : Plain) (K : ℕ) (p : Piped) (c : ℕ)
           held (retD y) = retD y
       go false w = fullE l (v .codes) e (omega (arith, ap bit w)) (moved a)
         where
-          u : (loadsInto (p .pipeline .e) (sourceA (fetched (steps s n))) ≡ false) × (loadsInto (p .pipeline .e) (sourceB (fetched (steps s n))) ≡ false)
+          u : (loadsInto (p .pipeline .e) (awaitedA g (fetched (steps s n))) ≡ false) × (loadsInto (p .pipeline .e) (sourceB (fetched (steps s n))) ≡ false)
           u = Signals.unloaded g p (fetched (steps s n)) h w
 
-          e : advanced g p .pipeline .e ≡ inE (decoded (steps s n))
-          e = Signals.e-in g p (steps s n) w (v .right) h (v .read (l .runs) _ (u .0)) (v .read (l .runs) _ (u .1))
+          e : executing g (advanced g p) ≡ inE (decoded (steps s n))
+          e = Signals.e-in g p (steps s n) w (v .right) h (v .hand (l .runs) (fetched (steps s n)) (u .0)) (v .read (l .runs) _ (u .1))
 
           moved : BehindD g s K p c n → BehindE g s K (advanced g p) (suc c) n
           moved (goesD q f) =
@@ -206,7 +209,7 @@ module _ (g : Core) (s : Plain) (K : ℕ) (p : Piped) (c : ℕ)
     read-on n l r q x e =
         cc (value-after (accessed (steps s n)) (steps s n .machine .registers) (len n) q, Laws.step-registers (steps s n) (l .runs) r)
 
-    module _ (n : ℕ) (v : Executing n) (l : Known g s K n) (k : p .pipeline .codes ≡ steps s n .machine .codes) (h : p .pipeline .e ≡ inE (decoded (steps s n)))
+    module _ (n : ℕ) (v : Executing n) (l : Known g s K n) (k : p .pipeline .codes ≡ steps s n .machine .codes) (h : executing g p ≡ inE (decoded (steps s n)))
         (t : due g s (suc n) ≡ c + 3) where
       unfailing : fails p ≡ false
       unfailing = v .failing ∙ l .runs
@@ -247,7 +250,7 @@ module _ (g : Core) (s : Plain) (K : ℕ) (p : Piped) (c : ℕ)
               ))))
 
     into-M : (n : ℕ) → Executing n → AtE g s K p c n → AtM g s K (advanced g p) (suc c) n
-    unfolding loadsInto
+    unfolding loadsInto awaitedA pastBoth accessed decode
     into-M n v (beyondE h) = beyondM h
     into-M n v (stopE h k) = stopM h (Signals.codes-failing g p (v .failing ∙ h) ∙ k) (v .memory′)
     into-M n v (emptyE k h d) = go (isStopped (steps s n)) refl
@@ -267,6 +270,9 @@ module _ (g : Core) (s : Plain) (K : ℕ) (p : Piped) (c : ℕ)
               hi = omega arith;
               codes = Signals.codes-bubble g p h ∙ k;
               read = λ r q _. Signals.source-bubble g p h q ∙ v .read r q;
+              hand = λ r i _.
+                  Signals.handed-bubble g (advanced g p) (Signals.m-bubble g p h) (decode i (source g p))
+                  ∙ (Signals.source-bubble g p h (sourceA i) ∙ v .read r (sourceA i));
             }) d)
     into-M n v (fullE l k h t a) = fullM l (v .memory′) (Signals.m-in g p (steps s n) h k (unfailing n v l k h t)) (omega arith) (moved a)
       where
@@ -277,11 +283,45 @@ module _ (g : Core) (s : Plain) (K : ℕ) (p : Piped) (c : ℕ)
         moved (goesE q d) = goesM (q .stays) (into-E (suc n) decoding d)
           where
             read′ : isStopped (steps s (suc n)) ≡ false → (q : ℕ) → loadsInto (p .pipeline .e) q ≡ false
-                → source p q ≡ value (steps s (suc n) .machine .registers) q
+                → source g p q ≡ value (steps s (suc n) .machine .registers) q
             read′ r q u =
                 Signals.source-in g p (steps s n) h k q
-                ∙ (sym (Laws.past-unloaded (steps s n) q (sourceM p q) (subst (λ (e : StageE). loadsInto e q ≡ false) h u)) ∙ read-on n l r q (sourceM p q)
-                (v .read (l .runs) q))
+                ∙ (sym (Laws.past-unloaded (steps s n) q (sourceM p q) (sym (Signals.loadsInto-in g p (decoded (steps s n)) q h) ∙ u))
+                ∙ read-on n l r q (sourceM p q) (v .read (l .runs) q))
+
+            -- the word that the instruction of M loads goes to a store behind it, and any other source was read
+            hand′ : isStopped (steps s (suc n)) ≡ false → (i : Instruction) → loadsInto (p .pipeline .e) (awaitedA g i) ≡ false
+                → handedA g (afterM (advanced g p .pipeline .m) (advanced g p .memory)) (decode i (source g p))
+                ≡ value (steps s (suc n) .machine .registers) (sourceA i)
+            hand′ r i u = on ∙ go (takesLate g i) met refl refl
+              where
+                m′ : advanced g p .pipeline .m ≡ inM (executed (steps s n))
+                m′ = Signals.m-in g p (steps s n) h k (unfailing n v l k h t)
+
+                met : Bool
+                met = meets (loadedTarget (decoded (steps s n) .instruction)) (sourceA i)
+
+                given : ℕ
+                given = cond (takesLate g i && met) (accessed (steps s n) .word) (source g p (sourceA i))
+
+                on : handedA g (afterM (advanced g p .pipeline .m) (advanced g p .memory)) (decode i (source g p)) ≡ given
+                on =
+                    cc (
+                      Signals.handed-of g (advanced g p) (executed (steps s n)) m′ (decode i (source g p)),
+                      v .memory′,
+                      Laws.in-executed (steps s n),
+                      Laws.in-decoded (steps s n),
+                    )
+
+                go : (b m : Bool) → takesLate g i ≡ b → met ≡ m → given ≡ value (steps s (suc n) .machine .registers) (sourceA i)
+                go true true e f =
+                    cc (
+                      read-on n l r (sourceA i) (sourceM p (sourceA i)) (v .read (l .runs) (sourceA i)),
+                      Laws.in-accessed (steps s n),
+                      Laws.in-decoded (steps s n),
+                    )
+                go true false e f = cc (read′ r (sourceA i) (Signals.loadsInto-in g p (decoded (steps s n)) (sourceA i) h ∙ f))
+                go false m e f = cc (read′ r (sourceA i) (cc))
 
             decoding : Decoding (suc n)
             decoding =
@@ -295,6 +335,7 @@ module _ (g : Core) (s : Plain) (K : ℕ) (p : Piped) (c : ℕ)
                   hi = omega arith;
                   codes = codes-next n v l k h t;
                   read = read′;
+                  hand = hand′;
                 }
         moved (wrongE x) = goesM (Laws.charge-wrong g s n x .0) (mend-E n v l k h t x)
         moved (retE y d) =

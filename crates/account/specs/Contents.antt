@@ -19,7 +19,7 @@ use Rattle.machine.specs.Fetch.{fetch, parsed, stopping, half, ownBytes, sizeAt
 use Rattle.machine.specs.Stages.{decode, execute, access, stores, accessAddress, storedWord, newMemory}
 use Rattle.clocked.specs.Prediction.{Core}
 use Rattle.clocked.specs.Charges.{retiredOf}
-use Rattle.clocked.specs.Pipeline.{Piped, pipeStart, afterE, afterM, memoryAfter, mispredicts, waits, returns, fails, fetchedNow}
+use Rattle.clocked.specs.Pipeline.{Piped, pipeStart, afterE, afterM, handed, executing, memoryAfter, mispredicts, waits, returns, fails, fetchedNow}
 use Rattle.clocked.specs.Pipeline.{fetchAddress, nextD, decodedD, nextE, nextM, keptAfter, advanced, stoppedIn, clock, clocks}
 use Rattle.clocked.specs.PipeRuns.{instructionRefused, refusedInD, refusedInE, refusedInM, refusedInW, refusedKept, countsRefused}
 use Rattle.machine.specs.Runs.{sizeRefused, budgetRefused, logRefused, lowest}
@@ -104,10 +104,15 @@ cond-any : {A : Type 0} (P : A → Type 0) (b : Bool) (x y : A) → P x → P y 
 cond-any P true x y h k = h
 cond-any P false x y h k = k
 
-decoded-fits : (p : Piped) (d : StageD) → refusedInD d ≡ false → refusedInE (decodedD p d) ≡ false
+decoded-fits : (g : Core) (p : Piped) (d : StageD) → refusedInD d ≡ false → refusedInE (decodedD g p d) ≡ false
 unfolding decodedD decode refusedInD refusedInE
-decoded-fits p bubbleD h = refl
-decoded-fits p (inD i) h = h
+decoded-fits g p bubbleD h = refl
+decoded-fits g p (inD i) h = h
+
+handed-fits : (g : Core) (w : StageW) (e : StageE) → refusedInE e ≡ false → refusedInE (handed g w e) ≡ false
+unfolding handed refusedInE
+handed-fits g w bubbleE h = refl
+handed-fits g w (inE x) h = h
 
 executed-fits : (p : Piped) (e : StageE) → refusedInE e ≡ false → refusedInM (afterE e (p .pipeline .codes)) ≡ false
 unfolding afterE execute refusedInE refusedInM
@@ -145,7 +150,7 @@ record Fits (p : Piped) : Type 0 where
 
 module _ (g : Core) (p : Piped) (h : Fits p) where
   fits-advanced : Fits (advanced g p)
-  unfolding advanced nextD nextE nextM fetchedNow refusedInD refusedInE refusedInM
+  unfolding advanced nextD nextE nextM fetchedNow executing refusedInD refusedInE refusedInM
   fits-advanced =
       record {
         bytes = bytes-after (p .pipeline .m) (p .memory) (h .bytes);
@@ -153,8 +158,10 @@ module _ (g : Core) (p : Piped) (h : Fits p) where
             cond-any (λ d. refusedInD d ≡ false) (mispredicts g p) _ _ refl
             (cond-any (λ d. refusedInD d ≡ false) (waits g p) _ _ (h .inD′)
             (cond-any (λ d. refusedInD d ≡ false) (returns p) _ _ refl (fetch-fits (p .memory) (fetchAddress g p) (h .bytes))));
-        inE′ = cond-any (λ e. refusedInE e ≡ false) (mispredicts g p || waits g p) _ _ refl (decoded-fits p (p .pipeline .d) (h .inD′));
-        inM′ = cond-any (λ m. refusedInM m ≡ false) (fails p) _ _ refl (executed-fits p (p .pipeline .e) (h .inE′));
+        inE′ = cond-any (λ e. refusedInE e ≡ false) (mispredicts g p || waits g p) _ _ refl (decoded-fits g p (p .pipeline .d) (h .inD′));
+        inM′ =
+            cond-any (λ m. refusedInM m ≡ false) (fails p) _ _ refl
+            (executed-fits p (executing g p) (handed-fits g (afterM (p .pipeline .m) (p .memory)) (p .pipeline .e) (h .inE′)));
         inW′ = accessed-fits p (p .pipeline .m) (h .inM′);
         kept = kept-fits (p .pipeline .w) (p .pipeline .kept) (h .inW′) (h .kept);
         set = h .set;

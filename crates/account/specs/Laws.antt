@@ -16,7 +16,7 @@ use Rattle.machine.specs.Fetch.{fetch, parsed, checked, stopping}
 use Rattle.machine.specs.Stages.{register, decode, execute, access, outcome, condition, loads, stores, loading, storing, accessAddress}
 use Rattle.machine.specs.Stages.{accessStatus, codesBy, newCodes, newMemory, newRegisters, loadedTarget, sourceA, sourceB, turned, straight, nextAddress}
 use Rattle.machine.specs.Plain.{Plain, isStopped, fetched, decoded, executed, accessed, performed, stoppedBy, step, steps}
-use Rattle.clocked.specs.Prediction.{Core, guess, predictedNext, mispredicted, meets, loadUse}
+use Rattle.clocked.specs.Prediction.{Core, guess, predictedNext, mispredicted, meets, awaitedA, loadUse}
 use Rattle.clocked.specs.Charges.{reasonBehind, retiredOf, amount, reasonOf, charge, charges, due}
 use Rattle.clocked.specs.Pipeline.{pastResult, pastBoth}
 use Rattle.published.specs.Lengths.{every-row}
@@ -145,7 +145,7 @@ kind i = go (is jump i) (is ret i) refl refl
 
 loadUse-none : (g : Core) (i j : Instruction) → loadedTarget i ≡ 15 → loadUse g i j ≡ false
 unfolding loadUse
-loadUse-none g i j e = cc (meets-none (sourceA j), meets-none (sourceB j))
+loadUse-none g i j e = cc (meets-none (awaitedA g j), meets-none (sourceB j))
 
 -- THE RULE: the unconditional jump is guessed to go to C
 guess-always : (g : Core) (i : Instruction) → eqb (i .function) 0 ≡ true → guess g i ≡ true

@@ -8,10 +8,10 @@ use Rattle.account.specs.Names.{Instruction, Decoded, Executed, Accessed
 use Rattle.account.specs.Names.{StageD, bubbleD, inD, bubbleE, inE, bubbleM, inM, bubbleW, inW}
 use Rattle.machine.specs.Types.{isBad}
 use Rattle.machine.specs.Table.{is, ret}
-use Rattle.machine.specs.Stages.{decode, execute, access}
+use Rattle.machine.specs.Stages.{decode, execute, access, sourceB}
 use Rattle.clocked.specs.Prediction.{Core, mispredicted}
 use Rattle.clocked.specs.Charges.{noKinds, amount, reasonBehind, reasonFrom, retiredOf}
-use Rattle.clocked.specs.Pipeline.{Piped, pipeStart, waits, mispredicts, fails, retInE, retInM, fetchedNow}
+use Rattle.clocked.specs.Pipeline.{Piped, pipeStart, afterM, handedA, executing, waits, mispredicts, fails, retInE, retInM, fetchedNow}
 use Rattle.clocked.specs.Pipeline.{source, retiredAfter, kindsAfter, keptAfter, advanced, stoppedIn, clock, clocks}
 use Rattle.account.specs.Statement.{Start, pipedFrom}
 use Rattle.account.specs.Laws
@@ -47,7 +47,7 @@ module _ (g : Core) (p : Piped) (c : ℕ) where
 
   data OwnE (k : Kept) (b : ℕ) : Type 0 where
     emptyE : p .pipeline .e ≡ bubbleE → OwnD k b → OwnE k b
-    fullE : (x : Decoded) → p .pipeline .e ≡ inE x → behind g k b (x .instruction) ≡ c + 3 → BehindE x (behind g k b (x .instruction)) → OwnE k b
+    fullE : (x : Decoded) → executing g p ≡ inE x → behind g k b (x .instruction) ≡ c + 3 → BehindE x (behind g k b (x .instruction)) → OwnE k b
 
   data BehindM (x : Executed) (b : ℕ) : Type 0 where
     goesM : is ret (x .instruction) ≡ false → OwnE (lastKept (retiring x)) b → BehindM x b
@@ -74,11 +74,16 @@ module _ (g : Core) (p : Piped) (c : ℕ) where
   -- the instruction i goes from D to E, and another is fetched behind it
   module _ (v : Decoding) (i : Instruction) (h : p .pipeline .d ≡ inD i) (w : waits g p ≡ false) (b : ℕ) (t : b ≡ c + 4) where
     x′ : Decoded
-    x′ = decode i (source p)
+    x′ =
+        record {
+          instruction = i;
+          a = handedA g (afterM (advanced g p .pipeline .m) (advanced g p .memory)) (decode i (source g p));
+          b = source g p (sourceB i);
+        }
 
-    e′ : advanced g p .pipeline .e ≡ inE x′
-    unfolding x′
-    e′ = Signals.e-of g p i w (v .right) h
+    e′ : executing g (advanced g p) ≡ inE x′
+    unfolding x′ decode
+    e′ = Signals.executing-of g (advanced g p) (decode i (source g p)) (Signals.e-of g p i w (v .right) h)
 
     fetch-behind : mispredicts g (advanced g p) ≡ false → is ret i ≡ false
         → OwnD g (advanced g p) (suc c) (lastKept (retiring (execute x′ (advanced g p .pipeline .codes)))) b

@@ -10,7 +10,7 @@ use Rattle.machine.specs.Table.{is, ret}
 use Rattle.machine.specs.Plain.{Plain, isStopped, fetched, decoded, executed, accessed, steps}
 use Rattle.clocked.specs.Prediction.{Core}
 use Rattle.clocked.specs.Charges.{due}
-use Rattle.clocked.specs.Pipeline.{Piped, waits, fetchAddress}
+use Rattle.clocked.specs.Pipeline.{Piped, executing, waits, fetchAddress}
 use Rattle.account.specs.Laws.{bit, wrongAt}
 use Rattle.account.specs.Signals.{waitsFor}
 
@@ -61,7 +61,7 @@ module _ (g : Core) (s : Plain) (K : ℕ) where
     beyondE : Beyond n → AtE p c n
     stopE : isStopped (steps s n) ≡ true → p .pipeline .codes ≡ steps s n .machine .codes → AtE p c n
     emptyE : p .pipeline .codes ≡ steps s n .machine .codes → p .pipeline .e ≡ bubbleE → AtD p c n → AtE p c n
-    fullE : Known n → p .pipeline .codes ≡ steps s n .machine .codes → p .pipeline .e ≡ inE (decoded (steps s n)) → due g s (suc n) ≡ c + 3 → BehindE p c n
+    fullE : Known n → p .pipeline .codes ≡ steps s n .machine .codes → executing g p ≡ inE (decoded (steps s n)) → due g s (suc n) ≡ c + 3 → BehindE p c n
         → AtE p c n
 
   -- ... than the one in M: a wrong guess is mended by now, and behind a return E and D are empty

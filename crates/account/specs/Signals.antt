@@ -1,7 +1,7 @@
 -- The controls: what the signals are, and what stands in each stage after a clock, by what stood in it before. A changed control touches these.
 use Prim.Native.Nat.{ℕ}
-use mathlib.Core.Bool.{Bool, true, false, cond, _||_}
-use mathlib.Core.Path.{_≡_, refl, _∙_}
+use mathlib.Core.Bool.{Bool, true, false, cond, _&&_, _||_, true≢false}
+use mathlib.Core.Path.{_≡_, refl, ap, sym, _∙_}
 use Rattle.account.specs.Names.{Instruction, Decoded, Executed, Accessed}
 use Rattle.account.specs.Names.{StageD, bubbleD, inD, StageE, bubbleE, inE, StageM, bubbleM, inM, StageW, bubbleW, inW}
 use Rattle.machine.specs.Types.{isBad}
@@ -9,9 +9,9 @@ use Rattle.machine.specs.Memory.{value}
 use Rattle.machine.specs.Table.{is, ret}
 use Rattle.machine.specs.Stages.{decode, execute, access, newCodes, newMemory, newRegisters, loadedTarget, sourceA, sourceB, turned}
 use Rattle.machine.specs.Plain.{Plain, fetched, decoded, executed, accessed}
-use Rattle.clocked.specs.Prediction.{Core, predictedNext, mispredicted, meets, loadUse}
-use Rattle.clocked.specs.Pipeline.{Piped, afterE, afterM, codesAfter, memoryAfter, registersAfter, pastResult, pastBoth, sourceW, sourceM}
-use Rattle.clocked.specs.Pipeline.{source, waitsBehind, waits, wrong, mispredicts, retInD, retInE, retInM, returns, badInW, fails}
+use Rattle.clocked.specs.Prediction.{Core, predictedNext, mispredicted, meets, loadUse, takesLate, awaitedA}
+use Rattle.clocked.specs.Pipeline.{Piped, afterE, afterM, handedA, handed, executing, codesAfter, memoryAfter, registersAfter}
+use Rattle.clocked.specs.Pipeline.{pastResult, pastBoth, sourceW, sourceM, source, waitsBehind, waits, wrong, mispredicts, retInD, retInE, retInM, returns, badInW, fails}
 use Rattle.clocked.specs.Pipeline.{returnedTo, mended, fetchAddress, fetchedNow, nextF, nextD, decodedD, nextE, nextM, nextCodes, advanced}
 use Rattle.account.specs.Laws.{or-true, wrongAt}
 use Rattle.laws.specs.Tests.{neither}
@@ -26,6 +26,10 @@ unfoldable pub loadsInto : StageE → ℕ → Bool
 loadsInto bubbleE q = false
 loadsInto (inE x) q = meets (loadedTarget (x .instruction)) q
 
+holdsOne : StageE → Bool
+holdsOne bubbleE = false
+holdsOne (inE x) = true
+
 unfoldable retInW : StageW → Bool
 retInW bubbleW = false
 retInW (inW w) = is ret (w .instruction)
@@ -36,11 +40,11 @@ same false x = refl
 
 module _ (g : Core) (p : Piped) where
   -- THE WORK OF D, E AND M
-  pub e-of : (i : Instruction) → waits g p ≡ false → mispredicts g p ≡ false → p .pipeline .d ≡ inD i → advanced g p .pipeline .e ≡ inE (decode i (source p))
+  pub e-of : (i : Instruction) → waits g p ≡ false → mispredicts g p ≡ false → p .pipeline .d ≡ inD i → advanced g p .pipeline .e ≡ inE (decode i (source g p))
   unfolding advanced nextE decodedD
   e-of i w m h = cc
 
-  module _ (x : Decoded) (h : p .pipeline .e ≡ inE x) where
+  module _ (x : Decoded) (h : executing g p ≡ inE x) where
     pub mispredicts-of : mispredicts g p ≡ mispredicted g (x .instruction) (execute x (p .pipeline .codes) .holds)
     unfolding mispredicts wrong afterE execute
     mispredicts-of = cc
@@ -58,20 +62,43 @@ module _ (g : Core) (p : Piped) where
     unfolding fails badInW afterM
     fails-of = cc
 
+    -- what a store in E is handed
+    pub handed-of : (y : Decoded) → handedA g (afterM (p .pipeline .m) (p .memory)) y
+        ≡ cond (takesLate g (y .instruction) && meets (loadedTarget (x .instruction)) (sourceA (y .instruction))) (access x (p .memory) .word) (y .a)
+    unfolding handedA afterM access
+    handed-of y = cc
+
+  -- what E works on is the instruction that stands there
+  pub executing-of : (x : Decoded) → p .pipeline .e ≡ inE x
+      → executing g p ≡ inE (record { instruction = x .instruction; a = handedA g (afterM (p .pipeline .m) (p .memory)) x; b = x .b })
+  unfolding executing handed
+  executing-of x h = cc
+
+  stands : (x : Decoded) → executing g p ≡ inE x → (y : Decoded) × (p .pipeline .e ≡ inE y) × (y .instruction ≡ x .instruction)
+  unfolding executing handed holdsOne
+  stands x h = go (p .pipeline .e) refl h
+    where
+      go : (e : StageE) → p .pipeline .e ≡ e → handed g (afterM (p .pipeline .m) (p .memory)) e ≡ inE x
+          → (y : Decoded) × (p .pipeline .e ≡ inE y) × (y .instruction ≡ x .instruction)
+      go bubbleE q k = absurd (true≢false (sym (ap holdsOne k)))
+      go (inE y) q k = (y, q, cc)
+
   -- ... on the plain engine's own values
   module _ (s : Plain) where
+    -- valA may come late
     pub e-in : waits g p ≡ false → mispredicts g p ≡ false → p .pipeline .d ≡ inD (fetched s)
-        → source p (sourceA (fetched s)) ≡ value (s .machine .registers) (sourceA (fetched s))
-        → source p (sourceB (fetched s)) ≡ value (s .machine .registers) (sourceB (fetched s)) → advanced g p .pipeline .e ≡ inE (decoded s)
-    unfolding decoded decode
+        → handedA g (afterM (advanced g p .pipeline .m) (advanced g p .memory)) (decode (fetched s) (source g p))
+        ≡ value (s .machine .registers) (sourceA (fetched s))
+        → source g p (sourceB (fetched s)) ≡ value (s .machine .registers) (sourceB (fetched s)) → executing g (advanced g p) ≡ inE (decoded s)
+    unfolding decoded decode executing handed
     e-in w m h a b = cc (e-of (fetched s) w m h)
 
-    module _ (h : p .pipeline .e ≡ inE (decoded s)) (k : p .pipeline .codes ≡ s .machine .codes) where
+    module _ (h : executing g p ≡ inE (decoded s)) (k : p .pipeline .codes ≡ s .machine .codes) where
       pub mispredicts-in : mispredicts g p ≡ wrongAt g s
       unfolding wrongAt executed execute
       mispredicts-in = cc (mispredicts-of (decoded s) h)
 
-      pub source-in : (q : ℕ) → source p q ≡ pastResult (inM (executed s)) q (sourceM p q)
+      pub source-in : (q : ℕ) → source g p q ≡ pastResult (inM (executed s)) q (sourceM p q)
       unfolding source afterE executed
       source-in q = cc
 
@@ -124,6 +151,10 @@ module _ (g : Core) (p : Piped) where
     unfolding sourceM afterM pastBoth
     sourceM-bubble q = cc
 
+    pub handed-bubble : (y : Decoded) → handedA g (afterM (p .pipeline .m) (p .memory)) y ≡ y .a
+    unfolding handedA afterM
+    handed-bubble y = cc
+
     pub memory-bubble : advanced g p .memory ≡ p .memory
     unfolding advanced memoryAfter
     memory-bubble = cc
@@ -138,19 +169,19 @@ module _ (g : Core) (p : Piped) where
     waits-bubbleE = cc
 
     pub mispredicts-bubble : mispredicts g p ≡ false
-    unfolding mispredicts wrong afterE
+    unfolding executing handed mispredicts wrong afterE
     mispredicts-bubble = cc
 
     pub m-bubble : advanced g p .pipeline .m ≡ bubbleM
-    unfolding advanced nextM afterE
+    unfolding executing handed advanced nextM afterE
     m-bubble = cc (same {A = StageM} (fails p) bubbleM)
 
     pub codes-bubble : advanced g p .pipeline .codes ≡ p .pipeline .codes
-    unfolding advanced nextCodes codesAfter
+    unfolding executing handed advanced nextCodes codesAfter
     codes-bubble = cc (same (fails p) (p .pipeline .codes))
 
-    pub source-bubble : (q : ℕ) → source p q ≡ sourceM p q
-    unfolding source afterE pastResult
+    pub source-bubble : (q : ℕ) → source g p q ≡ sourceM p q
+    unfolding executing handed source afterE pastResult
     source-bubble q = cc
 
     pub retE-bubble : retInE (p .pipeline .e) ≡ false
@@ -179,9 +210,13 @@ module _ (g : Core) (p : Piped) where
   unfolding retInD
   retD-in i h = cc
 
-  pub retE-in : (x : Decoded) → p .pipeline .e ≡ inE x → retInE (p .pipeline .e) ≡ is ret (x .instruction)
+  pub retE-in : (x : Decoded) → executing g p ≡ inE x → retInE (p .pipeline .e) ≡ is ret (x .instruction)
   unfolding retInE
-  retE-in x h = cc
+  retE-in x h = let y = stands x h in cc (y .1, y .2)
+
+  pub loadsInto-in : (x : Decoded) (q : ℕ) → executing g p ≡ inE x → loadsInto (p .pipeline .e) q ≡ meets (loadedTarget (x .instruction)) q
+  unfolding loadsInto
+  loadsInto-in x q h = let y = stands x h in cc (y .1, y .2)
 
   pub retM-in : (x : Executed) → p .pipeline .m ≡ inM x → retInM (p .pipeline .m) ≡ is ret (x .instruction)
   unfolding retInM
@@ -252,15 +287,15 @@ module _ (g : Core) (p : Piped) where
 
   -- LOAD-USE: without a wait no source is being loaded
   pub unloaded : (i : Instruction) → p .pipeline .d ≡ inD i → waits g p ≡ false
-      → (loadsInto (p .pipeline .e) (sourceA i) ≡ false) × (loadsInto (p .pipeline .e) (sourceB i) ≡ false)
+      → (loadsInto (p .pipeline .e) (awaitedA g i) ≡ false) × (loadsInto (p .pipeline .e) (sourceB i) ≡ false)
   unfolding waits waitsBehind loadUse loadsInto
   unloaded i h w = go (p .pipeline .e) (p .pipeline .d) h w
     where
-      go : (e : StageE) (d : StageD) → d ≡ inD i → waitsBehind g e d ≡ false → (loadsInto e (sourceA i) ≡ false) × (loadsInto e (sourceB i) ≡ false)
+      go : (e : StageE) (d : StageD) → d ≡ inD i → waitsBehind g e d ≡ false → (loadsInto e (awaitedA g i) ≡ false) × (loadsInto e (sourceB i) ≡ false)
       go bubbleE d h w = (refl, refl)
       go (inE x) d h w =
           let k : loadUse g (x .instruction) i ≡ false = cc in
-          neither (meets (loadedTarget (x .instruction)) (sourceA i)) (meets (loadedTarget (x .instruction)) (sourceB i)) k
+          neither (meets (loadedTarget (x .instruction)) (awaitedA g i)) (meets (loadedTarget (x .instruction)) (sourceB i)) k
 
   -- the wait of the next clock, when the instruction i has been fetched
   pub waits-next : (i : Instruction) → waits g p ≡ false → mispredicts g p ≡ false → advanced g p .pipeline .d ≡ inD i
@@ -268,7 +303,7 @@ module _ (g : Core) (p : Piped) where
   unfolding waits advanced waitsBehind nextE decodedD decode waitsFor
   waits-next i w m h = rw h (go (p .pipeline .d) (advanced g p .pipeline .e) (cc))
     where
-      go : (d : StageD) (e : StageE) → e ≡ decodedD p d → waitsBehind g e (inD i) ≡ waitsFor g d i
+      go : (d : StageD) (e : StageE) → e ≡ decodedD g p d → waitsBehind g e (inD i) ≡ waitsFor g d i
       go bubbleD e q = cc
       go (inD j) e q = cc
 
@@ -298,7 +333,7 @@ module _ (g : Core) (p : Piped) where
   unfolding advanced nextM mispredicts wrong
   wrong-next h = go (fails p)
     where
-      go : (b : Bool) → wrong g (cond b bubbleM (afterE (p .pipeline .e) (p .pipeline .codes))) ≡ false
+      go : (b : Bool) → wrong g (cond b bubbleM (afterE (executing g p) (p .pipeline .codes))) ≡ false
       go true = refl
       go false = h
 

@@ -81,3 +81,5 @@ pub const RETURNED: u64 = 70;
 pub const KEPT: u64 = 71;
 
 pub const RULE: u64 = 81;
+
+pub const LATE: u64 = 82;

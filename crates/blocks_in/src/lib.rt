@@ -8,10 +8,10 @@
 //
 //   block        words  what they hold, each with its first place
 //   machine         22  0 state, 20 program address, 21 count
-//   pipeline        82  0 predicted address; 1 D: instruction; 10 E: instruction, a, b; 21 M: instruction, a, result, holds;
+//   pipeline        83  0 predicted address; 1 D: instruction; 10 E: instruction, a, b; 21 M: instruction, a, result, holds;
 //                       33 W: instruction, result, holds, word, status; 46 state; 66 retired; 67 cycles;
 //                       68 cycles charged for load-use, mispredict, return; 71 kept: instruction, holds;
-//                       81 settings: the number of the rule
+//                       81 settings: the number of the rule, whether store data comes late
 //   fetched          9  0 instruction
 //
 // A status is its number in document 01, any other word AOK. Of a word for a byte the lowest byte counts, of a word for

@@ -12,6 +12,7 @@ use crate::layout::FUNCTION;
 use crate::layout::KEPT;
 use crate::layout::KEPT_HOLDS;
 use crate::layout::LAST;
+use crate::layout::LATE;
 use crate::layout::LOADUSE;
 use crate::layout::M;
 use crate::layout::M_A;
@@ -205,6 +206,7 @@ pub fn machine_in(block: &[u64]) -> Machine {
 pub fn settings_in(block: &[u64]) -> Settings {
     Settings {
         rule: byte_at(block, RULE, 0),
+        late: truth_at(block, LATE, 0),
     }
 }
 

@@ -13,6 +13,7 @@ use blocks_in::layout::FUNCTION;
 use blocks_in::layout::KEPT;
 use blocks_in::layout::KEPT_HOLDS;
 use blocks_in::layout::LAST;
+use blocks_in::layout::LATE;
 use blocks_in::layout::LOADUSE;
 use blocks_in::layout::M;
 use blocks_in::layout::M_A;
@@ -230,6 +231,7 @@ pub fn put_pipeline(block: &mut [u64], p: Pipeline) {
     put_state(block, STATE, registers, codes, status, p.last);
     put_counts(block, p);
     put(block, RULE, 0, settings.rule as u64);
+    put_truth(block, LATE, 0, settings.late);
 }
 
 pub fn put_machine(block: &mut [u64], m: Machine) {

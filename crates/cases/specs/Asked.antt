@@ -7,7 +7,7 @@ use lib.ListN.{getD, replicate}
 use Rattle.machine.specs.Types.{statusNumber, codesNumber}
 use Rattle.machine.specs.Words.{number}
 use Rattle.machine.specs.Memory.{Memory}
-use Rattle.clocked.specs.Prediction.{core01, asIn01}
+use Rattle.clocked.specs.Prediction.{coreOf}
 use Rattle.clocked.specs.Charges.{charge}
 use Rattle.machine.specs.Plain.{plainStart, plainOf}
 use Rattle.clocked.specs.Pipeline.{pipeStart}
@@ -15,7 +15,7 @@ use Rattle.machine.specs.Runs.{PlainAnswer, plainRun}
 use Rattle.clocked.specs.PipeRuns.{PipeAnswer, pipeRun}
 use Rattle.records.specs.Given.{image, given, coded}
 use Rattle.records.specs.Looks.{same}
-use Rattle.cases.specs.Names.{Status, Codes}
+use Rattle.cases.specs.Names.{Status, Codes, Settings}
 use Rattle.cases.specs.Computing.{computing}
 
 -- what a case looks at besides: register q, the word at a, the charge of instruction k
@@ -26,8 +26,9 @@ pub data What : Type 0 where
 abbrev pub Look : Type 0
 Look = What × ℕ × ℕ
 
--- memory has size bytes, the first ones given; each register is 0 but those given; then what both engines answer
+-- the pipeline's settings; memory has size bytes, the first ones given; each register is 0 but those given; then what both engines answer
 pub record Case : Type 0 where
+  pub settings : Settings
   pub size : ℕ
   pub bytes : ℕ
   pub image : ℕ
@@ -57,13 +58,13 @@ abbrev byPlain : Case → PlainAnswer
 byPlain c = plainRun (plainStart (given (c .registers)) fresh 0) (memoryOf c) budget log
 
 abbrev byPipeline : Case → PipeAnswer
-byPipeline c = pipeRun (pipeStart asIn01 (given (c .registers)) fresh 0) (memoryOf c) budget log log
+byPipeline c = pipeRun (pipeStart (c .settings) (given (c .registers)) fresh 0) (memoryOf c) budget log log
 
 -- what a look finds in either engine
 abbrev inPlain : Case → PlainAnswer → What → ℕ → ℕ
 inPlain c s register q = getD (s .machine .registers) q 0
 inPlain c s word a = number 8 (s .memory .bytes) a
-inPlain c s charged k = charge core01 (plainOf (plainStart (given (c .registers)) fresh 0) (memoryOf c)) k
+inPlain c s charged k = charge (coreOf (c .settings)) (plainOf (plainStart (given (c .registers)) fresh 0) (memoryOf c)) k
 
 -- a charge is seen in the cycles in which k and its predecessor retired
 abbrev inPipeline : PipeAnswer → What → ℕ → ℕ

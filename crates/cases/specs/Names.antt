@@ -6,4 +6,5 @@ pub use Rattle.machine.specs.declared.Instruction.{Instruction}
 pub use Rattle.machine.specs.declared.FetchAnswer.{FetchAnswer}
 pub use Rattle.machine.specs.declared.Executed.{Executed}
 pub use Rattle.machine.specs.declared.Machine.{Machine}
+pub use Rattle.clocked.specs.declared.Settings.{Settings}
 pub use Rattle.clocked.specs.declared.Pipeline.{Pipeline}

@@ -3,14 +3,35 @@ use Prim.Native.Nat.{ℕ, _-_, _^_}
 use mathlib.Core.Path.{_≡_, refl}
 use mathlib.Core.Bool.{true}
 use mathlib.Core.List.{List, [], _∷_}
-use Rattle.cases.specs.Names.{Status, hlt, adr, ins}
+use Rattle.clocked.specs.Prediction.{asIn01}
+use Rattle.cases.specs.Names.{Status, hlt, adr, ins, Settings}
 use Rattle.cases.specs.Asked.{Case, Look, register, word, charged, allHold}
 
--- N, how many bytes are given, the bytes as they are written, the registers that are not 0; then
+-- the settings; N, how many bytes are given, the bytes as they are written, the registers that are not 0; then
 -- status, last address, codes, retired, cycles, the kinds load-use, mispredict, return, and what else is looked at
+abbrev caseAt : Settings → (size bytes image : ℕ) → List (ℕ × ℕ) → Status → (last codes retired cycles loaduse mispredict returned : ℕ) → List Look → Case
+caseAt g n k x r t a c i y l m u s =
+    record {
+      settings = g;
+      size = n;
+      bytes = k;
+      image = x;
+      registers = r;
+      status = t;
+      last = a;
+      codes = c;
+      retired = i;
+      cycles = y;
+      kinds = l ∷ m ∷ u ∷ [];
+      looks = s;
+    }
+
 abbrev case : (size bytes image : ℕ) → List (ℕ × ℕ) → Status → (last codes retired cycles loaduse mispredict returned : ℕ) → List Look → Case
-case n k x r t a c i y l m u s =
-    record { size = n; bytes = k; image = x; registers = r; status = t; last = a; codes = c; retired = i; cycles = y; kinds = l ∷ m ∷ u ∷ []; looks = s }
+case = caseAt asIn01
+
+-- late store data, by the rule of that number
+abbrev late : ℕ → Settings
+late n = record { rule = n; late = true }
 
 unfoldable pub cases : List Case
 cases =
@@ -84,6 +105,17 @@ cases =
     ∷ case 17 17 0x6101_2002_2103_2205_2306_2407_2508_2609_00 ((0, 1) ∷ (1, 1) ∷ []) hlt 16 4 9 13 0 0 0 ((register, 2, 1) ∷ (register, 3, 1) ∷ (register, 5, 0) ∷ (register, 6, 1) ∷ (register, 7, 0) ∷ (register, 8, 1) ∷ (register, 9, 0) ∷ [])
     ∷ case 17 17 0x6101_2002_2103_2205_2306_2407_2508_2609_00 ((0, 1) ∷ (1, 0) ∷ []) hlt 16 2 9 13 0 0 0 ((register, 2, 1) ∷ (register, 3, 1) ∷ (register, 5, 1) ∷ (register, 6, 0) ∷ (register, 7, 1) ∷ (register, 8, 0) ∷ (register, 9, 0) ∷ [])
     ∷ case 17 17 0x6101_2002_2103_2205_2306_2407_2508_2609_00 ((0, 1) ∷ (1, 2) ∷ []) hlt 16 0 9 13 0 0 0 ((register, 2, 1) ∷ (register, 3, 0) ∷ (register, 5, 0) ∷ (register, 6, 0) ∷ (register, 7, 1) ∷ (register, 8, 1) ∷ (register, 9, 1) ∷ [])
+    -- late store data (02, #106): popq rax, then rmmovq rax, 24(rcx) waits without it only; popq rcx, then rmmovq rax, 24(rcx) waits all the same;
+    -- popq rsp, then pushq rsp too; popq rsp, then rmmovq rsp, 24(rcx) stores the word loaded, not the sum
+    ∷ case 32 24 0xb00f_40011800000000000000_00_000000_0700000000000000 ((4, 16) ∷ []) hlt 12 4 3 8 1 0 0 ((word, 24, 7) ∷ (charged, 2, 1) ∷ [])
+    ∷ caseAt (late 0) 32 24 0xb00f_40011800000000000000_00_000000_0700000000000000 ((4, 16) ∷ []) hlt 12 4 3 7 0 0 0
+    ((word, 24, 7) ∷ (register, 0, 7) ∷ (charged, 2, 0) ∷ [])
+    ∷ caseAt (late 2) 40 24 0xb01f_40011800000000000000_00_000000_0700000000000000 ((0, 5) ∷ (4, 16) ∷ []) hlt 12 4 3 8 1 0 0
+    ((word, 31, 5) ∷ (charged, 2, 1) ∷ [])
+    ∷ caseAt (late 1) 32 24 0xb04f_a04f_00_0000000000000000000000_2000000000000000 ((4, 16) ∷ []) hlt 4 4 3 8 1 0 0
+    ((word, 24, 32) ∷ (register, 4, 24) ∷ (charged, 2, 1) ∷ [])
+    ∷ caseAt (late 0) 32 24 0xb04f_40411800000000000000_00_000000_0700000000000000 ((4, 16) ∷ []) hlt 12 4 3 7 0 0 0
+    ((word, 24, 7) ∷ (register, 4, 7) ∷ (charged, 2, 0) ∷ [])
     -- the listing of 001: 11 retired, 20 cycles, HLT at 0x40, rax 9, rbx 12, rsp 128, word at 120 is 64
     ∷ case 256 66 0x30f20900000000000000_30f31500000000000000_6123_30f48000000000000000_40436400000000000000_a02f_b00f_734000000000000000_804100000000000000_00_90 [] hlt 0x40 0 11 20 0 2 3 ((register, 0, 9) ∷ (register, 3, 12) ∷ (register, 4, 128) ∷ (word, 120, 64) ∷ [])
     -- the listing of 004 stops at 0x13 after 33, in 52 cycles

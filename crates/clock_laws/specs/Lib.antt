@@ -1,3 +1,4 @@
 pub mod Registers
 pub mod Stops
 pub mod Settings
+pub mod Late

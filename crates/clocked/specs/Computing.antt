@@ -9,17 +9,18 @@ use Rattle.clocked.specs.PipeRuns
 unfoldable pub computing : Unit {0}
 unfolding
     Base.computing
-    Prediction.rule Prediction.guess Prediction.predictedNext Prediction.mispredicted Prediction.meets Prediction.loadUse
+    Prediction.rule Prediction.guess Prediction.predictedNext Prediction.mispredicted Prediction.meets Prediction.takesLate Prediction.awaitedA
+    Prediction.loadUse
     Charges.reasonBehind Charges.amount Charges.noKinds Charges.counted Charges.retiredOf Charges.reasonFrom Charges.reasonOf Charges.charge
     Charges.charges Charges.kindsOf Charges.due Charges.dueCycles
-    Pipeline.pipeStart Pipeline.afterE Pipeline.afterM Pipeline.codesAfter Pipeline.memoryAfter Pipeline.registersAfter Pipeline.pastResult
-    Pipeline.pastBoth Pipeline.sourceW Pipeline.sourceM Pipeline.source Pipeline.waitsBehind Pipeline.waits Pipeline.wrong Pipeline.mispredicts
-    Pipeline.retInD Pipeline.retInE Pipeline.retInM Pipeline.returns Pipeline.badInW Pipeline.fails Pipeline.returnedTo Pipeline.mended
+    Pipeline.pipeStart Pipeline.afterE Pipeline.afterM Pipeline.handedA Pipeline.handed Pipeline.executing Pipeline.codesAfter
+    Pipeline.memoryAfter Pipeline.registersAfter Pipeline.pastResult Pipeline.pastBoth Pipeline.sourceW Pipeline.sourceM Pipeline.source Pipeline.waitsBehind Pipeline.waits
+    Pipeline.wrong Pipeline.mispredicts Pipeline.retInD Pipeline.retInE Pipeline.retInM Pipeline.returns Pipeline.badInW Pipeline.fails Pipeline.returnedTo Pipeline.mended
     Pipeline.fetchAddress Pipeline.fetchedNow Pipeline.nextF Pipeline.nextD Pipeline.decodedD Pipeline.nextE Pipeline.nextM Pipeline.nextCodes
     Pipeline.lastAfter Pipeline.retiredAfter Pipeline.kindsAfter Pipeline.keptAfter Pipeline.logged Pipeline.advanced Pipeline.stoppedIn
     Pipeline.clockBy Pipeline.clock Pipeline.clocks
     Premise.writesByte Premise.hasByte
     PipeRuns.instructionRefused PipeRuns.refusedInD PipeRuns.refusedInE PipeRuns.refusedInM PipeRuns.refusedInW PipeRuns.refusedKept
-    PipeRuns.countsRefused PipeRuns.settingsRefused PipeRuns.recordRefused PipeRuns.pipeStartRefusal PipeRuns.pipeStarted PipeRuns.pipeRefusal PipeRuns.pipeDone PipeRuns.pipeBy PipeRuns.pipeRun PipeRuns.pipeRunUnlogged
-    PipeRuns.pipeClock
+    PipeRuns.countsRefused PipeRuns.settingsRefused PipeRuns.recordRefused PipeRuns.pipeStartRefusal PipeRuns.pipeStarted PipeRuns.pipeRefusal
+    PipeRuns.pipeDone PipeRuns.pipeBy PipeRuns.pipeRun PipeRuns.pipeRunUnlogged PipeRuns.pipeClock
 computing = tt

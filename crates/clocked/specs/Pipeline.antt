@@ -1,15 +1,15 @@
 -- The pipelined engine, one clock at a time.
 use Prim.Native.Nat.{ℕ, zero, suc, _+_}
-use mathlib.Core.Bool.{Bool, false, cond, _||_}
+use mathlib.Core.Bool.{Bool, false, cond, _&&_, _||_}
 use mathlib.Core.List.{List, [], _∷_, _++_}
 use Rattle.machine.specs.Types.{isBad}
-use Rattle.clocked.specs.Record.{Settings, Pipeline, Instruction, Accessed, Codes, aok, Kinds}
+use Rattle.clocked.specs.Record.{Settings, Pipeline, Instruction, Decoded, Accessed, Codes, aok, Kinds}
 use Rattle.clocked.specs.Record.{StageD, bubbleD, inD, StageE, bubbleE, inE, StageM, bubbleM, inM, StageW, bubbleW, inW, Kept, noneKept, lastKept}
 use Rattle.machine.specs.Memory.{Memory, Registers, value}
 use Rattle.machine.specs.Table.{is, ret}
 use Rattle.machine.specs.Fetch.{fetch}
-use Rattle.machine.specs.Stages.{decode, execute, access, newCodes, newMemory, newRegisters, resultTarget, loadedTarget, turned}
-use Rattle.clocked.specs.Prediction.{Core, predictedNext, mispredicted, meets, loadUse}
+use Rattle.machine.specs.Stages.{decode, execute, access, newCodes, newMemory, newRegisters, resultTarget, loadedTarget, turned, sourceA}
+use Rattle.clocked.specs.Prediction.{Core, predictedNext, mispredicted, meets, loadUse, takesLate}
 use Rattle.clocked.specs.Charges.{noKinds, counted, retiredOf, reasonFrom}
 
 -- the record, its memory, and what has been logged of each retirement so far: its address and its cycle
@@ -53,6 +53,19 @@ unfoldable pub afterM : StageM → Memory → StageW
 afterM bubbleM m = bubbleW
 afterM (inM x) m = inW (access x m)
 
+-- "One core passes a word loaded in M straight to a store in E" (02, #106): valA of x, with w behind M's access
+unfoldable pub handedA : Core → StageW → Decoded → ℕ
+handedA g bubbleW x = x .a
+handedA g (inW w) x = cond (takesLate g (x .instruction) && meets (loadedTarget (w .instruction)) (sourceA (x .instruction))) (w .word) (x .a)
+
+unfoldable pub handed : Core → StageW → StageE → StageE
+handed g w bubbleE = bubbleE
+handed g w (inE x) = inE (record { instruction = x .instruction; a = handedA g w x; b = x .b })
+
+-- what E works on in this clock
+unfoldable pub executing : Core → Piped → StageE
+executing g p = handed g (afterM (p .pipeline .m) (p .memory)) (p .pipeline .e)
+
 unfoldable pub codesAfter : StageE → Codes → Codes
 codesAfter bubbleE c = c
 codesAfter (inE x) c = newCodes x c
@@ -82,8 +95,8 @@ sourceW p q = pastBoth (p .pipeline .w) q (value (p .pipeline .registers) q)
 unfoldable pub sourceM : Piped → ℕ → ℕ
 sourceM p q = pastBoth (afterM (p .pipeline .m) (p .memory)) q (sourceW p q)
 
-unfoldable pub source : Piped → ℕ → ℕ
-source p q = pastResult (afterE (p .pipeline .e) (p .pipeline .codes)) q (sourceM p q)
+unfoldable pub source : Core → Piped → ℕ → ℕ
+source g p q = pastResult (afterE (executing g p) (p .pipeline .codes)) q (sourceM p q)
 
 -- SIGNALS
 -- "load-use (mrmovq or popq in E whose loaded register is a source in D)"
@@ -102,7 +115,7 @@ wrong g (inM x) = mispredicted g (x .instruction) (x .holds)
 
 -- "misprediction (jXX in E, condition false)"
 unfoldable pub mispredicts : Core → Piped → Bool
-mispredicts g p = wrong g (afterE (p .pipeline .e) (p .pipeline .codes))
+mispredicts g p = wrong g (afterE (executing g p) (p .pipeline .codes))
 
 unfoldable pub retInD : StageD → Bool
 retInD bubbleD = false
@@ -154,21 +167,21 @@ nextF g p = cond (waits g p || returns p) (p .pipeline .predicted) (predictedNex
 unfoldable pub nextD : Core → Piped → StageD
 nextD g p = cond (mispredicts g p) bubbleD (cond (waits g p) (p .pipeline .d) (cond (returns p) bubbleD (inD (fetchedNow g p))))
 
-unfoldable pub decodedD : Piped → StageD → StageE
-decodedD p bubbleD = bubbleE
-decodedD p (inD i) = inE (decode i (source p))
+unfoldable pub decodedD : Core → Piped → StageD → StageE
+decodedD g p bubbleD = bubbleE
+decodedD g p (inD i) = inE (decode i (source g p))
 
 -- E: a bubble for misprediction and for load-use
 unfoldable pub nextE : Core → Piped → StageE
-nextE g p = cond (mispredicts g p || waits g p) bubbleE (decodedD p (p .pipeline .d))
+nextE g p = cond (mispredicts g p || waits g p) bubbleE (decodedD g p (p .pipeline .d))
 
 -- M: "bad status in M, after its access: bubble into M."
-unfoldable pub nextM : Piped → StageM
-nextM p = cond (fails p) bubbleM (afterE (p .pipeline .e) (p .pipeline .codes))
+unfoldable pub nextM : Core → Piped → StageM
+nextM g p = cond (fails p) bubbleM (afterE (executing g p) (p .pipeline .codes))
 
 -- "Then, or with bad status in W, OPq in E sets no codes." With bad status in W nothing below is done at all
-unfoldable pub nextCodes : Piped → Codes
-nextCodes p = cond (fails p) (p .pipeline .codes) (codesAfter (p .pipeline .e) (p .pipeline .codes))
+unfoldable pub nextCodes : Core → Piped → Codes
+nextCodes g p = cond (fails p) (p .pipeline .codes) (codesAfter (executing g p) (p .pipeline .codes))
 
 -- RETIREMENT
 -- "An instruction retires in the clock in which it stands in W."
@@ -204,10 +217,10 @@ advanced g p =
             predicted = nextF g p;
             d = nextD g p;
             e = nextE g p;
-            m = nextM p;
+            m = nextM g p;
             w = afterM (k .m) (p .memory);
             registers = registersAfter (k .w) (k .registers);
-            codes = nextCodes p;
+            codes = nextCodes g p;
             status = aok;
             last = lastAfter (k .w) (k .last);
             retired = retiredAfter (k .w) (k .retired);

@@ -6,9 +6,10 @@ use Rattle.clocked.specs.Record.{Instruction, Settings}
 use Rattle.machine.specs.Table.{is, jump}
 use Rattle.machine.specs.Stages.{sourceA, sourceB, loadedTarget, turned, straight}
 
--- what one core may do otherwise than another: is a conditional jump, as fetched, guessed to go to C
+-- what one core may do otherwise than another: is a conditional jump, as fetched, guessed to go to C; may a store's data come late
 pub record Core : Type 0 where
   pub guesses : Instruction → Bool
+  pub late : Bool
 
 -- "taken; conditional jumps never taken; or taken exactly when C is below the next address, without sign" (02, #105): rules 0, 1 and 2
 unfoldable pub rule : ℕ → Instruction → Bool
@@ -16,11 +17,11 @@ rule n i = cond (eqb n 1) false (cond (eqb n 2) (ltb (i .constant) (i .next)) tr
 
 -- the core that a record's settings choose
 abbrev pub coreOf : Settings → Core
-coreOf s = record { guesses = rule (s .rule) }
+coreOf s = record { guesses = rule (s .rule); late = s .late }
 
 -- document 01's own settings
 abbrev pub asIn01 : Settings
-asIn01 = record { rule = 0 }
+asIn01 = record { rule = 0; late = false }
 
 abbrev pub core01 : Core
 core01 = coreOf asIn01
@@ -41,6 +42,20 @@ mispredicted g i holds = is jump i && not (Bool·beq holds (guess g i))
 unfoldable pub meets : ℕ → ℕ → Bool
 meets target source = ltb source 15 && eqb target source
 
--- load-use: the first instruction's "loaded register is a source" of the second
+-- "As an option in the start record, rmmovq or pushq waits only if the loaded register is its address source" (02, #106)
+abbrev pub rmmovq : ℕ
+rmmovq = 4
+
+abbrev pub pushq : ℕ
+pushq = 10
+
+unfoldable pub takesLate : Core → Instruction → Bool
+takesLate g i = g .late && (is rmmovq i || is pushq i)
+
+-- the source that is waited for beside sourceB, "rB, or rsp for pushq": 15 for none, where "it is only the stored rA"
+unfoldable pub awaitedA : Core → Instruction → ℕ
+awaitedA g i = cond (takesLate g i) 15 (sourceA i)
+
+-- load-use: the first instruction's "loaded register is a source" that the second waits for
 unfoldable pub loadUse : Core → Instruction → Instruction → Bool
-loadUse g i j = meets (loadedTarget i) (sourceA j) || meets (loadedTarget i) (sourceB j)
+loadUse g i j = meets (loadedTarget i) (awaitedA g j) || meets (loadedTarget i) (sourceB j)

@@ -10,9 +10,10 @@ use machine::Status;
 // The most cycles that are not refused.
 pub const PIPE_LIMIT: u64 = 262145;
 
-// In what one core may differ from another: the number of the rule by which it predicts conditional jumps.
+// In what one core may differ from another: the number of the rule by which it predicts conditional jumps, and whether a store's data may come late.
 pub struct Settings {
     pub rule: u8,
+    pub late: bool,
 }
 
 // What is kept of the last instruction retired with AOK, for its follower's charge.

@@ -16,9 +16,9 @@ use Rattle.clocked.specs.declared.StageW.{StageW}
 use Rattle.clocked.specs.declared.StageW.the-variants.{BubbleW as bubbleW, InW as inW}
 use Rattle.machine.specs.Memory.{Memory, Registers, value, written}
 use Rattle.machine.specs.Stages.{decode, execute, access, newRegisters, sourceA, sourceB}
-use Rattle.clocked.specs.Prediction.{Core, meets, loadUse}
-use Rattle.clocked.specs.Pipeline.{afterE, afterM, pastResult, pastBoth, registersAfter, waitsBehind}
-use Rattle.stage.specs.Forwarding.{targetsOf, targetsM, targetsW, sourcesD, resultM, resultW, wordW, writtenBy, sourceBy, decodedBy}
+use Rattle.clocked.specs.Prediction.{Core, meets, awaitedA, loadUse}
+use Rattle.clocked.specs.Pipeline.{afterE, afterM, handed, pastResult, pastBoth, registersAfter, waitsBehind}
+use Rattle.stage.specs.Forwarding.{targetsOf, targetsM, targetsW, sourcesD, resultM, resultW, wordW, writtenBy, sourceBy, decodedBy, awaitedBy}
 use Rattle.flow.specs.Moving.{sourceIn, decodedIn}
 
 -- the access changes no target
@@ -33,12 +33,12 @@ written-is bubbleW r = refl
 written-is (inW w) r = refl
 
 -- behind E and D: a bubble has 15 for its targets and sources, which meet nothing
-pub waits-is : (g : Core) (e : StageE) (c : Codes) (d : StageD)
-    → (meets (targetsM (afterE e c) .loaded) (sourcesD d .a) || meets (targetsM (afterE e c) .loaded) (sourcesD d .b)) ≡ waitsBehind g e d
-unfolding targetsM targetsOf afterE execute sourcesD waitsBehind loadUse meets
-waits-is g bubbleE c d = rw (meets-none (sourcesD d .a), meets-none (sourcesD d .b))
-waits-is g (inE x) c bubbleD = refl
-waits-is g (inE x) c (inD i) = refl
+pub waits-is : (g : Core) (y : StageW) (e : StageE) (c : Codes) (d : StageD)
+    → let l = targetsM (afterE (handed g y e) c) .loaded in (meets l (awaitedBy g d (sourcesD d .a)) || meets l (sourcesD d .b)) ≡ waitsBehind g e d
+unfolding targetsM targetsOf afterE handed execute sourcesD waitsBehind awaitedBy awaitedA loadUse meets
+waits-is g y bubbleE c d = rw (meets-none (awaitedBy g d (sourcesD d .a)), meets-none (sourcesD d .b))
+waits-is g y (inE x) c bubbleD = refl
+waits-is g y (inE x) c (inD i) = refl
 
 -- below 15 a match is plain equality, and at 15 there is none
 module _ (q : ℕ) where

@@ -15,11 +15,12 @@ use Rattle.clocked.specs.declared.StageW.{StageW}
 use Rattle.machine.specs.Memory.{Memory, Registers}
 use Rattle.machine.specs.Fetch.{fetch}
 use Rattle.clocked.specs.Prediction.{Core, predictedNext, meets}
-use Rattle.clocked.specs.Pipeline.{afterE, afterM, codesAfter, registersAfter, wrong, retInD, retInE, retInM, badInW, returnedTo}
+use Rattle.clocked.specs.Pipeline.{afterE, afterM, handed, codesAfter, registersAfter, wrong, retInD, retInE, retInM, badInW, returnedTo}
+use Rattle.clock_laws.specs.Late.{codes-handed}
 use Rattle.stage.specs.Addresses.{mendedBy, mended-by}
 use Rattle.stage.specs.declared.forwarding.Targets.{Targets}
 use Rattle.stage.specs.declared.forwarding.Sources.{Sources}
-use Rattle.stage.specs.Forwarding.{noTargets, targetsM, targetsW, sourcesD, writtenBy, decodedBy}
+use Rattle.stage.specs.Forwarding.{noTargets, targetsM, targetsW, sourcesD, writtenBy, decodedBy, awaitedBy}
 use Rattle.flow.specs.declared.Flow.{Flow}
 use Rattle.flow.specs.declared.Ahead.{Ahead}
 use Rattle.flow.specs.declared.Signals.{Signals}
@@ -36,17 +37,17 @@ fetched-is : (g : Core) (b : Bool) (m : StageM) (w : StageW) (f : ℕ) (bytes : 
 unfolding fetchedIn
 fetched-is g b m w f bytes i p q = cc (mended-by g m (returnedTo w f))
 
-pub signals-are : (g : Core) (s : Sources) (t : Targets) (d : StageD) (e : StageE) (m x : StageM) (y : StageW) (a b c f : Bool)
-    → a ≡ (meets (t .loaded) (s .a) || meets (t .loaded) (s .b)) → b ≡ wrong g x → c ≡ (retInD d || (retInE e || retInM m)) → f ≡ badInW y
+pub signals-are : (g : Core) (s : Sources) (t : Targets) (d : StageD) (e : StageE) (m x : StageM) (y : StageW) (r : ℕ) (a b c f : Bool)
+    → r ≡ awaitedBy g d (s .a) → a ≡ (meets (t .loaded) r || meets (t .loaded) (s .b)) → b ≡ wrong g x → c ≡ (retInD d || (retInE e || retInM m)) → f ≡ badInW y
     → record { waits = a; mispredicts = b; returns = c; fails = f } ≡ signalsBy g s t d e m x y
 unfolding signalsBy signalsWith
-signals-are g s t d e m x y a b c f p q u v = cc
+signals-are g s t d e m x y r a b c f o p q u v = cc
 
 -- with D's sources and the targets of what stood in E, the code's signals are document 01's
 signals-same : (g : Core) (d : StageD) (e : StageE) (k : Codes) (m : StageM) (y : StageW)
-    → signalsBy g (sourcesD d) (targetsM (afterE e k)) d e m (afterE e k) y ≡ signalsOf g d e m (afterE e k) y
+    → signalsBy g (sourcesD d) (targetsM (afterE (handed g y e) k)) d e m (afterE (handed g y e) k) y ≡ signalsOf g d e m (afterE (handed g y e) k) y
 unfolding signalsBy signalsOf
-signals-same g d e k m y = cc (waits-is g e k d)
+signals-same g d e k m y = cc (waits-is g y e k d)
 
 no-targets : noTargets ≡ targetsM bubbleM
 unfolding targetsM
@@ -87,10 +88,10 @@ module _ (g : Core) (a : Ahead) (m : StageM) (w : StageW) (h : a ≡ aheadOf g m
 
 -- the values after the stages' work, and then the controls on the signals
 module _ (g : Core) (f : Flow) (r : Registers) (bytes : Memory) {x : StageM} {y : StageW} {i : Instruction} {t : Targets} {q : Sources} {z : StageE} {s : Signals}
-    (h : f .ahead ≡ aheadOf g (f .m) (f .w)) (ex : x ≡ afterE (f .e) (f .codes)) (ey : y ≡ afterM (f .m) bytes)
+    (h : f .ahead ≡ aheadOf g (f .m) (f .w)) (ex : x ≡ afterE (handed g y (f .e)) (f .codes)) (ey : y ≡ afterM (f .m) bytes)
     (ei : i ≡ fetch bytes (mendedBy (f .ahead .wrong) (f .m) (returnedTo (f .w) (f .predicted))))
     (et : t ≡ targetsM x) (eq : q ≡ sourcesD (f .d)) (ez : z ≡ decodedIn (f .d) x y (f .w) r) (es : s ≡ signalsBy g q t (f .d) (f .e) (f .m) x y) where
-  signals : s ≡ signalsOf g (f .d) (f .e) (f .m) (afterE (f .e) (f .codes)) y
+  signals : s ≡ signalsOf g (f .d) (f .e) (f .m) (afterE (handed g y (f .e)) (f .codes)) y
   signals = cc (signals-same g (f .d) (f .e) (f .codes) (f .m) y)
 
   fetched : i ≡ fetchedIn g (f .m) (f .w) (f .predicted) bytes
@@ -116,4 +117,4 @@ module _ (g : Core) (f : Flow) (r : Registers) (bytes : Memory) {x : StageM} {y 
       } ≡ flowAfter g f r bytes
   unfolding flowAfter shiftedOf aheadOf
   flow-is ep ed ee em ek eu =
-      cc (m-carried g (f .ahead) (f .m) (f .w) h y bytes ey, fetched, signals, targets-of (s .fails) x, wrongly)
+      cc (m-carried g (f .ahead) (f .m) (f .w) h y bytes ey, fetched, signals, targets-of (s .fails) x, wrongly, codes-handed g y (f .e) (f .codes))

@@ -13,10 +13,11 @@ use Rattle.machine.specs.Memory.{Memory, Registers, value}
 use Rattle.machine.specs.Fetch.{fetch}
 use Rattle.machine.specs.Stages.{decode}
 use Rattle.clocked.specs.Prediction.{Core, predictedNext, meets}
-use Rattle.clocked.specs.Pipeline.{afterE, afterM, codesAfter, pastResult, pastBoth, waitsBehind, wrong, retInD, retInE, retInM, badInW, returnedTo, mended}
+use Rattle.clocked.specs.Pipeline.{afterE, afterM, handed, codesAfter, pastResult, pastBoth, waitsBehind, wrong, retInD, retInE, retInM, badInW}
+use Rattle.clocked.specs.Pipeline.{returnedTo, mended}
 use Rattle.stage.specs.declared.forwarding.Targets.{Targets}
 use Rattle.stage.specs.declared.forwarding.Sources.{Sources}
-use Rattle.stage.specs.Forwarding.{targetsM, targetsW}
+use Rattle.stage.specs.Forwarding.{targetsM, targetsW, awaitedBy}
 use Rattle.flow.specs.declared.Flow.{Flow}
 use Rattle.flow.specs.declared.Ahead.{Ahead}
 use Rattle.flow.specs.declared.Signals.{Signals}
@@ -35,7 +36,7 @@ signalsOf g d e m x y = signalsWith g (waitsBehind g e d) d e m x y
 
 -- by D's sources s and the targets t of what stood in E, as the code tests it
 unfoldable pub signalsBy : Core → Sources → Targets → StageD → StageE → StageM → StageM → StageW → Signals
-signalsBy g s t d e m x y = signalsWith g (meets (t .loaded) (s .a) || meets (t .loaded) (s .b)) d e m x y
+signalsBy g s t d e m x y = signalsWith g (meets (t .loaded) (awaitedBy g d (s .a)) || meets (t .loaded) (s .b)) d e m x y
 
 -- what is fetched in a clock that began with f for the predicted address
 unfoldable pub fetchedIn : Core → StageM → StageW → ℕ → Memory → Instruction
@@ -60,13 +61,13 @@ shiftedOf g f s x y i z =
       e = cond (s .mispredicts || s .waits) bubbleE z;
       m = m;
       w = y;
-      codes = cond (s .fails) (f .codes) (codesAfter (f .e) (f .codes));
+      codes = cond (s .fails) (f .codes) (codesAfter (handed g y (f .e)) (f .codes));
       ahead = aheadOf g m y;
     }
 
 -- a clock in which no bad status stands in W, from registers r and memory m as it began
 unfoldable pub flowAfter : Core → Flow → Registers → Memory → Flow
 flowAfter g f r m =
-    let x = afterE (f .e) (f .codes) in
     let y = afterM (f .m) m in
+    let x = afterE (handed g y (f .e)) (f .codes) in
     shiftedOf g f (signalsOf g (f .d) (f .e) (f .m) x y) x y (fetchedIn g (f .m) (f .w) (f .predicted) m) (decodedIn (f .d) x y (f .w) r)

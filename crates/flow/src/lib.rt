@@ -17,6 +17,7 @@ use stage::controls::next_m;
 use stage::controls::next_targets;
 use stage::forwarding::Sources;
 use stage::forwarding::Targets;
+use stage::forwarding::awaited;
 use stage::forwarding::decode_d;
 use stage::forwarding::sources_d;
 use stage::forwarding::targets_m;
@@ -76,7 +77,7 @@ fn signals_now(
     ensures { λ r. ⌜ r ≡ signalsBy (coreOf settings) sources targets d e m executed accessed ⌝ }
 {
     Signals {
-        waits: meets_either(targets.loaded, sources.a, sources.b),
+        waits: meets_either(targets.loaded, awaited(settings, d, sources.a), sources.b),
         mispredicts: wrong(settings, executed),
         returns: ret_on_the_way(d, e, m),
         fails: bad_in_w(accessed),
@@ -132,7 +133,7 @@ pub fn advance(
     let in_m = ahead.m;
     let fetched = fetch_now(ahead.wrong, m, w, flow.predicted, memory);
     let accessed = after_m(m, memory);
-    let executed = after_e(e, codes);
+    let executed = after_e(settings, accessed, e, codes);
     let targets = targets_m(executed);
     let sources = sources_d(d);
     let decoded = write_and_decode(d, sources, targets, executed, accessed, w, ahead, registers);

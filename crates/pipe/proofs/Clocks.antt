@@ -13,7 +13,7 @@ use Rattle.clocked.specs.declared.StageW.the-variants.{BubbleW as bubbleW, InW 
 use Rattle.machine.specs.Types.{isBad}
 use Rattle.machine.specs.Memory.{Memory, Registers}
 use Rattle.clocked.specs.Prediction.{coreOf}
-use Rattle.clocked.specs.Pipeline.{Piped, afterE, afterM, source, sourceM, sourceW, decodedD, badInW, memoryAfter, registersAfter}
+use Rattle.clocked.specs.Pipeline.{Piped, afterE, afterM, handed, executing, source, sourceM, sourceW, decodedD, badInW, memoryAfter, registersAfter}
 use Rattle.clocked.specs.Pipeline.{lastAfter, retiredAfter, kindsAfter, logged, advanced, stoppedIn, clockBy, clock, waits}
 use Rattle.clocked.specs.Pipeline.{mispredicts, returns, fails, fetchAddress, fetchedNow, nextF, nextD, nextE, nextM, nextCodes}
 use Rattle.laws.specs.Status.{sound}
@@ -40,8 +40,9 @@ after s t es ys w f r m =
 
 -- the flow's order of sources is that of the definitions
 decoded-same : (s : Settings) (f : Flow) (t : Tally) (x : Status) (r : Registers) (m : Memory) (es ys : List ℕ) (d : StageD)
-    → decodedIn d (afterE (f .e) (f .codes)) (afterM (f .m) m) (f .w) r ≡ decodedD (piped (whole s f t x r) m es ys) d
-unfolding decodedIn decodedD sourceIn source sourceM sourceW whole
+    → decodedIn d (afterE (handed (coreOf s) (afterM (f .m) m) (f .e)) (f .codes)) (afterM (f .m) m) (f .w) r
+    ≡ decodedD (coreOf s) (piped (whole s f t x r) m es ys) d
+unfolding decodedIn decodedD sourceIn source sourceM sourceW executing whole
 decoded-same s f t x r m es ys bubbleD = refl
 decoded-same s f t x r m es ys (inD i) = refl
 
@@ -65,6 +66,6 @@ module _ (s : Settings) (f : Flow) (t : Tally) (x : Status) (r : Registers) (m :
 
   pub goes : isBad x ≡ false → badInW (f .w) ≡ false
       → clock (coreOf s) now ≡ after s t es ys (f .w) (flowAfter (coreOf s) f r m) (registersAfter (f .w) r) (memoryAfter (f .m) m)
-  unfolding clock advanced whole tallyAfter flowAfter shiftedOf signalsOf signalsWith fetchedIn
+  unfolding clock advanced executing whole tallyAfter flowAfter shiftedOf signalsOf signalsWith fetchedIn
       waits mispredicts returns fails fetchAddress fetchedNow nextF nextD nextE nextM nextCodes
   goes h b = rw h (goes-by (f .w) b ∙ rw (b, sound (statusAfter (f .w)) (bad-after (f .w) ∙ b), decoded-same s f t x r m es ys (f .d)))

@@ -16,7 +16,7 @@ use Rattle.clocked.specs.declared.StageW.the-variants.{BubbleW as bubbleW, InW 
 use Rattle.machine.specs.Types.{isBad}
 use Rattle.machine.specs.Memory.{Memory, size}
 use Rattle.clocked.specs.Prediction.{Core, coreOf}
-use Rattle.clocked.specs.Pipeline.{Piped, pipedOf, source, sourceM, sourceW, waits, mispredicts, returns, fails, fetchAddress, fetchedNow, nextF}
+use Rattle.clocked.specs.Pipeline.{Piped, pipedOf, executing, source, sourceM, sourceW, waits, mispredicts, returns, fails, fetchAddress, fetchedNow, nextF}
 use Rattle.clocked.specs.Pipeline.{nextD, nextE, nextM, nextCodes, decodedD, retiredAfter, logged, advanced, stoppedIn, clockBy, clock, clocks}
 use Rattle.machine.specs.Runs.{laid}
 use Rattle.clocked.specs.PipeRuns.{pipeRefusal, PipeAnswer, pipeAnswer, pipeDone, pipeBy, pipeRun, pipeRunUnlogged}
@@ -30,13 +30,13 @@ before : List ℕ → List ℕ → Piped → Piped
 before es ys p = record { pipeline = p .pipeline; memory = p .memory; addressLog = es ++ p .addressLog; cycleLog = ys ++ p .cycleLog }
 
 module _ (g : Core) (es ys : List ℕ) where
-  decoded-before : (p : Piped) (d : StageD) → decodedD (before es ys p) d ≡ decodedD p d
-  unfolding before decodedD source sourceM sourceW
+  decoded-before : (p : Piped) (d : StageD) → decodedD g (before es ys p) d ≡ decodedD g p d
+  unfolding before executing decodedD source sourceM sourceW
   decoded-before p bubbleD = refl
   decoded-before p (inD i) = refl
 
   advanced-before : (p : Piped) → advanced g (before es ys p) ≡ before es ys (advanced g p)
-  unfolding before advanced waits mispredicts returns fails fetchAddress fetchedNow nextF nextD nextE nextM nextCodes
+  unfolding before executing advanced waits mispredicts returns fails fetchAddress fetchedNow nextF nextD nextE nextM nextCodes
   advanced-before p = rw (decoded-before p (p .pipeline .d), append-assoc es, append-assoc ys)
 
   by-before : (p : Piped) (w : StageW) → clockBy g (before es ys p) w ≡ before es ys (clockBy g p w)

@@ -35,7 +35,10 @@ pub struct Answer {
 pub fn as_in_01() -> Settings
     ensures { λ r. ⌜ r ≡ asIn01 ⌝ }
 {
-    Settings { rule: 0 }
+    Settings {
+        rule: 0,
+        late: false,
+    }
 }
 
 // A fresh start in memory of that size.

@@ -1,6 +1,6 @@
 -- What a row gives: an image, instructions, and a record made from a fresh one by named changes.
 use Prim.Native.Nat.{ℕ, zero, suc, _+_, _-_, _/_, _%_, _^_}
-use mathlib.Core.Bool.{Bool}
+use mathlib.Core.Bool.{Bool, true, false}
 use mathlib.Core.List.{List, [], _∷_, _++_}
 use lib.Dec.{eqb}
 use lib.ListN.{set, replicate}
@@ -8,7 +8,8 @@ use Rattle.machine.specs.Memory.{Memory, lent, Registers}
 use Rattle.machine.specs.Table.{unknownCode}
 use Rattle.clocked.specs.Prediction.{asIn01}
 use Rattle.clocked.specs.Pipeline.{pipeStart}
-use Rattle.records.specs.Names.{Status, aok, Codes, Instruction, StageD, inD, StageE, inE, StageM, inM, StageW, inW, Kept, lastKept, Kinds, Pipeline}
+use Rattle.records.specs.Names.{Status, aok, Codes, Instruction, StageD, inD, StageE, inE, StageM, inM, StageW, inW, Kept, lastKept, Kinds}
+use Rattle.records.specs.Names.{Settings, Pipeline}
 
 -- MEMORY
 -- the k bytes of a number in the order in which they are written
@@ -162,11 +163,11 @@ books s a n y t x k =
       kept = x;
     }
 
--- the rule of that number
-abbrev pub rule : ℕ → Change
-rule n k =
+-- these settings
+abbrev settled : Settings → Change
+settled s k =
     record {
-      settings = record { rule = n };
+      settings = s;
       predicted = k .predicted;
       d = k .d;
       e = k .e;
@@ -181,6 +182,13 @@ rule n k =
       kinds = k .kinds;
       kept = k .kept;
     }
+
+-- the rule of that number, without late store data and with it
+abbrev pub rule : ℕ → Change
+rule n = settled (record { rule = n; late = false })
+
+abbrev pub late : ℕ → Change
+late n = settled (record { rule = n; late = true })
 
 -- F holds this address; D, E, M and W this instruction, with what it carries there
 abbrev pub F : ℕ → Change

@@ -6,10 +6,11 @@ use Rattle.records.specs.Fetches.{rowsOfFetch}
 use Rattle.records.specs.Works.{rowsOfSources, rowsOfResults, rowsOfAccesses}
 use Rattle.records.specs.Clocks.{rowsOfClock}
 use Rattle.records.specs.Guesses.{rowsOfGuesses}
+use Rattle.records.specs.Late.{rowsOfLate}
 use Rattle.records.specs.Entries.{rowsOfEntries}
 
 -- every row holds: of each list none is failing. The lists are short enough that a refusal shows the rows that fail
 pub rows-hold : (failing rowsOfFetch ≡ []) × (failing rowsOfSources ≡ []) × (failing rowsOfResults ≡ []) × (failing rowsOfAccesses ≡ [])
-    × (failing rowsOfClock ≡ []) × (failing rowsOfGuesses ≡ []) × (failing rowsOfEntries ≡ [])
-unfolding failing rowsOfFetch rowsOfSources rowsOfResults rowsOfAccesses rowsOfClock rowsOfGuesses rowsOfEntries
-rows-hold = (refl, refl, refl, refl, refl, refl, refl)
+    × (failing rowsOfClock ≡ []) × (failing rowsOfGuesses ≡ []) × (failing rowsOfLate ≡ []) × (failing rowsOfEntries ≡ [])
+unfolding failing rowsOfFetch rowsOfSources rowsOfResults rowsOfAccesses rowsOfClock rowsOfGuesses rowsOfLate rowsOfEntries
+rows-hold = (refl, refl, refl, refl, refl, refl, refl, refl)

@@ -17,16 +17,16 @@ use Rattle.clocked.specs.declared.Reason.the-variants.{Free as free, Waited as 
 use Rattle.clocked.specs.declared.Kinds.{Kinds}
 use Rattle.machine.specs.Types.{isBad}
 use Rattle.machine.specs.Table.{is}
-use Rattle.machine.specs.Stages.{sourceA, sourceB, loadedTarget}
-use Rattle.clocked.specs.Prediction.{Core, mispredicted, meets, loadUse}
+use Rattle.machine.specs.Stages.{sourceB, loadedTarget}
+use Rattle.clocked.specs.Prediction.{Core, mispredicted, meets, awaitedA, loadUse}
 use Rattle.clocked.specs.Charges.{reasonBehind, reasonFrom, counted, retiredOf}
 use Rattle.clocked.specs.Pipeline.{badInW, lastAfter, retiredAfter, kindsAfter, keptAfter}
 use Rattle.retiring.specs.declared.Tally.{Tally}
 use Rattle.retiring.specs.Retiring.{keptBy, retires, statusAfter, tallyAfter}
 
 -- why an instruction is charged, by its predecessor
-module _ (g : Core) (k : Retired) (j : Instruction) (l a s : ℕ) (b c : Bool) (el : l ≡ loadedTarget (k .instruction)) (ea : a ≡ sourceA j) (es : s ≡ sourceB j)
-    (eb : b ≡ (meets l a || meets l s)) where
+module _ (g : Core) (k : Retired) (j : Instruction) (l a s : ℕ) (b c : Bool) (el : l ≡ loadedTarget (k .instruction)) (ea : a ≡ awaitedA g j)
+    (es : s ≡ sourceB j) (eb : b ≡ (meets l a || meets l s)) where
   pub loaded-before : b ≡ true → waited ≡ reasonBehind g k j
   unfolding reasonBehind loadUse
   loaded-before h = cc

@@ -7,13 +7,13 @@ use clocked::Settings;
 use clocked::StageW;
 use isa::decoding::is_bad;
 use isa::decoding::loaded_target;
-use isa::decoding::source_a;
 use isa::decoding::source_b;
 use machine::Accessed;
 use machine::Instruction;
 use machine::RET;
 use machine::Status;
 use stage::controls::afresh;
+use stage::forwarding::awaited_a;
 use stage::signals::meets_either;
 use stage::signals::mispredicted;
 ghost use mathlib.Core.Path.{_≡_};
@@ -36,7 +36,7 @@ fn reason_behind(settings: Settings, k: Retired, j: Instruction) -> Reason
     ensures { λ r. ⌜ r ≡ reasonBehind (coreOf settings) k j ⌝ }
 {
     let i = k.instruction;
-    if meets_either(loaded_target(i), source_a(j), source_b(j)) {
+    if meets_either(loaded_target(i), awaited_a(settings, j), source_b(j)) {
         return Reason::Waited;
     }
     if mispredicted(settings, i, k.holds) & (i.function != 0) {

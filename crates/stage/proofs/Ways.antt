@@ -13,21 +13,22 @@ use Rattle.machine.specs.Types.{isBad}
 use Rattle.machine.specs.Memory.{Memory, Registers, value, written}
 use Rattle.machine.specs.Table.{is}
 use Rattle.machine.specs.Stages.{execute, access, newCodes, newMemory, sourceA, sourceB, resultTarget, loadedTarget, turned, straight}
-use Rattle.clocked.specs.Prediction.{Core, coreOf, rule, guess, predictedNext, mispredicted, meets}
-use Rattle.clocked.specs.Pipeline.{afterE, afterM, codesAfter, memoryAfter, wrong, retInD, retInE, retInM, badInW, returnedTo}
+use Rattle.clocked.specs.Prediction.{Core, coreOf, rule, guess, predictedNext, mispredicted, meets, takesLate, awaitedA}
+use Rattle.clocked.specs.Pipeline.{handedA, handed, afterE, afterM, codesAfter, memoryAfter, wrong, retInD, retInE, retInM, badInW, returnedTo}
 use Rattle.stage.specs.Addresses.{mendedBy}
 use Rattle.stage.specs.declared.forwarding.Targets.{Targets}
 use Rattle.stage.specs.declared.forwarding.Sources.{Sources}
-use Rattle.stage.specs.Forwarding.{noTargets, targetsOf, targetsM, targetsW, sourcesD, resultM, resultW, wordW, writtenBy, sourceBy, decodedBy}
+use Rattle.stage.specs.Forwarding.{noTargets, targetsOf, targetsM, targetsW, sourcesD, resultM, resultW, wordW, writtenBy, sourceBy, decodedBy, awaitedBy}
 
 -- THE WORK OF A STAGE
-pub e-bubble : (e : StageE) (c : Codes) → e ≡ bubbleE → bubbleM ≡ afterE e c
-unfolding afterE
-e-bubble e c h = cc
+pub e-bubble : (g : Core) (w : StageW) (e : StageE) (c : Codes) → e ≡ bubbleE → bubbleM ≡ afterE (handed g w e) c
+unfolding afterE handed
+e-bubble g w e c h = cc
 
-pub e-works : (e : StageE) (c : Codes) (x : Decoded) (y : Executed) → e ≡ inE x → y ≡ execute x c → inM y ≡ afterE e c
-unfolding afterE
-e-works e c x y h p = cc
+pub e-works : (g : Core) (w : StageW) (e : StageE) (c : Codes) (x : Decoded) (a : ℕ) (y : Executed) → e ≡ inE x → a ≡ handedA g w x
+    → y ≡ execute (record { instruction = x .instruction; a = a; b = x .b }) c → inM y ≡ afterE (handed g w e) c
+unfolding afterE handed
+e-works g w e c x a y h q p = cc
 
 pub m-bubble : (s : StageM) (m : Memory) → s ≡ bubbleM → bubbleW ≡ afterM s m
 unfolding afterM
@@ -57,6 +58,49 @@ memory-new s m m′ x h p = cc
 pub meets-is : (t q : ℕ) → ltb q 15 && eqb t q ≡ meets t q
 unfolding meets
 meets-is t q = refl
+
+pub late-is : (s : Settings) (i : Instruction) → s .late && (eqb (i .code) 4 || eqb (i .code) 10) ≡ takesLate (coreOf s) i
+unfolding takesLate is
+late-is s i = refl
+
+pub late-d : (g : Core) (d : StageD) (a : ℕ) → d ≡ bubbleD → a ≡ awaitedBy g d a
+unfolding awaitedBy
+late-d g d a h = cc
+
+pub late-a : (g : Core) (d : StageD) (i : Instruction) (a : ℕ) (b : Bool) → d ≡ inD i → b ≡ takesLate g i → b ≡ true → 15 ≡ awaitedBy g d a
+unfolding awaitedBy
+late-a g d i a b h e t = cc
+
+pub not-late-a : (g : Core) (d : StageD) (i : Instruction) (a : ℕ) (b : Bool) → d ≡ inD i → b ≡ takesLate g i → b ≡ false → a ≡ awaitedBy g d a
+unfolding awaitedBy
+not-late-a g d i a b h e t = cc
+
+pub awaits-none : (g : Core) (i : Instruction) (b : Bool) → b ≡ takesLate g i → b ≡ true → 15 ≡ awaitedA g i
+unfolding awaitedA
+awaits-none g i b e t = cc
+
+pub awaits-a : (g : Core) (i : Instruction) (b : Bool) (a : ℕ) → b ≡ takesLate g i → b ≡ false → a ≡ sourceA i → a ≡ awaitedA g i
+unfolding awaitedA
+awaits-a g i b a e t p = cc
+
+pub handed-not : (g : Core) (w : StageW) (x : Decoded) (b : Bool) → b ≡ takesLate g (x .instruction) → b ≡ false → x .a ≡ handedA g w x
+unfolding handedA
+handed-not g bubbleW x b e h = refl
+handed-not g (inW w) x b e h = cc
+
+pub handed-none : (g : Core) (w : StageW) (x : Decoded) → w ≡ bubbleW → x .a ≡ handedA g w x
+unfolding handedA
+handed-none g w x k = cc
+
+module _ (g : Core) (w : StageW) (x : Decoded) (b : Bool) (y : Accessed) (l q : ℕ) (m : Bool) (e : b ≡ takesLate g (x .instruction)) (h : b ≡ true)
+    (ew : w ≡ inW y) (el : l ≡ loadedTarget (y .instruction)) (eq : q ≡ sourceA (x .instruction)) (em : m ≡ meets l q) where
+  pub handed-word : m ≡ true → y .word ≡ handedA g w x
+  unfolding handedA
+  handed-word t = cc
+
+  pub handed-unmet : m ≡ false → x .a ≡ handedA g w x
+  unfolding handedA
+  handed-unmet t = cc
 
 pub meets-one : (l a b : ℕ) (x y : Bool) → x ≡ meets l a → y ≡ meets l b → (x || y) ≡ (meets l a || meets l b)
 meets-one l a b x y p q = cc

@@ -3,6 +3,7 @@ use Prim.Native.Nat.{ℕ}
 use mathlib.Core.Bool.{Bool, cond}
 use lib.Dec.{eqb, ltb}
 use Rattle.stage.specs.Types.{Instruction, StageD, bubbleD, inD, StageE, bubbleE, inE, StageM, bubbleM, inM, StageW, bubbleW, inW}
+use Rattle.clocked.specs.Prediction.{Core, takesLate}
 use Rattle.machine.specs.Memory.{Registers, value, written}
 use Rattle.machine.specs.Stages.{sourceA, sourceB, resultTarget, loadedTarget}
 use Rattle.stage.specs.declared.forwarding.Targets.{Targets}
@@ -56,3 +57,8 @@ sourceBy t x u y r q =
 unfoldable pub decodedBy : Sources → Targets → StageM → Targets → StageW → Registers → StageD → StageE
 decodedBy s t x u y r bubbleD = bubbleE
 decodedBy s t x u y r (inD i) = inE (record { instruction = i; a = sourceBy t x u y r (s .a); b = sourceBy t x u y r (s .b) })
+
+-- of D's sources a is the one that may come late, and is then not waited for
+unfoldable pub awaitedBy : Core → StageD → ℕ → ℕ
+awaitedBy g bubbleD a = a
+awaitedBy g (inD i) a = cond (takesLate g i) 15 a

@@ -1,4 +1,6 @@
 // Sources and targets, and decode with what is forwarded to it.
+use crate::signals::takes_late;
+use clocked::Settings;
 use clocked::StageD;
 use clocked::StageE;
 use clocked::StageM;
@@ -12,7 +14,8 @@ use machine::Instruction;
 use machine::NONE;
 use machine::REGISTERS;
 ghost use mathlib.Core.Path.{_≡_};
-ghost use Rattle.stage.specs.Forwarding.{noTargets, targetsOf, targetsM, targetsW, sourcesD, resultM, resultW, wordW, sourceBy, decodedBy};
+ghost use Rattle.clocked.specs.Prediction.{coreOf, awaitedA};
+ghost use Rattle.stage.specs.Forwarding.{noTargets, targetsOf, targetsM, targetsW, sourcesD, resultM, resultW, wordW, sourceBy, decodedBy, awaitedBy};
 
 // The registers that an instruction writes, 15 for none: worked out in E, and carried on from there.
 pub struct Targets {
@@ -35,6 +38,27 @@ pub fn sources_d(d: StageD) -> Sources
             a: source_a(i),
             b: source_b(i),
         },
+    }
+}
+
+// Of D's sources the one that may come late is not waited for.
+pub fn awaited(settings: Settings, d: StageD, a: u8) -> u8
+    ensures { λ r. ⌜ r ≡ awaitedBy (coreOf settings) d a ⌝ }
+{
+    match d {
+        StageD::BubbleD => a,
+        StageD::InD(i) => { if takes_late(settings, i) { NONE } else { a } }
+    }
+}
+
+// The same of an instruction.
+pub fn awaited_a(settings: Settings, i: Instruction) -> u8
+    ensures { λ r. ⌜ r ≡ awaitedA (coreOf settings) i ⌝ }
+{
+    if takes_late(settings, i) {
+        NONE
+    } else {
+        source_a(i)
     }
 }
 

@@ -11,7 +11,7 @@ use machine::NONE;
 use machine::RET;
 ghost use mathlib.Core.Path.{_≡_};
 ghost use mathlib.Core.Bool.{_||_};
-ghost use Rattle.clocked.specs.Prediction.{coreOf, guess as guessOf, meets as meetsOf, mispredicted as mispredictedOf};
+ghost use Rattle.clocked.specs.Prediction.{coreOf, guess as guessOf, meets as meetsOf, mispredicted as mispredictedOf, takesLate};
 ghost use Rattle.clocked.specs.Pipeline.{wrong as wrongOf, retInD, retInE, retInM, badInW};
 
 // The rules that do not guess every jump taken (#105).
@@ -19,11 +19,22 @@ const NEVER: u8 = 1;
 
 const BACKWARD: u8 = 2;
 
+// The stores whose data may come late (#106).
+const RMMOVQ: u8 = 4;
+
+const PUSHQ: u8 = 10;
+
 // Register 15 as a source matches nothing.
-fn meets(target: u8, source: u8) -> bool
+pub fn meets(target: u8, source: u8) -> bool
     ensures { λ r. ⌜ r ≡ meetsOf target source ⌝ }
 {
     (source < NONE) & (target == source)
+}
+// With late store data rmmovq and pushq do not wait for the word that they store.
+pub fn takes_late(settings: Settings, i: Instruction) -> bool
+    ensures { λ r. ⌜ r ≡ takesLate (coreOf settings) i ⌝ }
+{
+    settings.late & ((i.code == RMMOVQ) | (i.code == PUSHQ))
 }
 
 // Load-use: a loaded register is among the sources a and b of another instruction.

@@ -2,27 +2,65 @@
 use crate::forwarding::Targets;
 use crate::forwarding::result_w;
 use crate::forwarding::word_w;
+use crate::signals::meets;
+use crate::signals::takes_late;
+use clocked::Settings;
 use clocked::StageE;
 use clocked::StageM;
 use clocked::StageW;
 use isa::accessing::access_and_update;
+use isa::decoding::loaded_target;
+use isa::decoding::source_a;
 use isa::decoding::write;
 use isa::executing::execute;
 use isa::executing::new_codes;
 use machine::Codes;
+use machine::Decoded;
 use machine::REGISTERS;
 ghost use mathlib.Core.Path.{_≡_};
 ghost use Rattle.machine.specs.Memory.{lent};
-ghost use Rattle.clocked.specs.Pipeline.{afterE, afterM, codesAfter, memoryAfter};
+ghost use Rattle.clocked.specs.Prediction.{coreOf};
+ghost use Rattle.clocked.specs.Pipeline.{afterE, afterM, handedA, handed, codesAfter, memoryAfter};
 ghost use Rattle.stage.specs.Forwarding.{writtenBy};
 
-// E's instruction after execution, on the codes as the clock began.
-pub fn after_e(e: StageE, codes: Codes) -> StageM
-    ensures { λ r. ⌜ r ≡ afterE e codes ⌝ }
+// valA of E's instruction, or for a store the word that M loads, where that comes late.
+fn handed_a(settings: Settings, w: StageW, x: Decoded) -> u64
+    ensures { λ r. ⌜ r ≡ handedA (coreOf settings) w x ⌝ }
+{
+    let i = x.instruction;
+    if takes_late(settings, i) {
+        match w {
+            StageW::BubbleW => x.a,
+            StageW::InW(y) => {
+                let j = y.instruction;
+                if meets(loaded_target(j), source_a(i)) {
+                    y.word
+                } else {
+                    x.a
+                }
+            }
+        }
+    } else {
+        x.a
+    }
+}
+
+// E's instruction after execution, on the codes as the clock began; w is M's after its access.
+pub fn after_e(settings: Settings, w: StageW, e: StageE, codes: Codes) -> StageM
+    ensures { λ r. ⌜ r ≡ afterE (handed (coreOf settings) w e) codes ⌝ }
 {
     match e {
         StageE::BubbleE => StageM::BubbleM,
-        StageE::InE(x) => StageM::InM(execute(x, codes)),
+        StageE::InE(x) => {
+            let instruction = x.instruction;
+            let a = handed_a(settings, w, x);
+            let given = Decoded {
+                instruction,
+                a,
+                b: x.b,
+            };
+            StageM::InM(execute(given, codes))
+        }
     }
 }
 

@@ -143,6 +143,7 @@ impl Calls {
         let allowed = settings(&mut self.random);
         let refused = Settings {
             rule: refused_rule(&mut self.random),
+            ..allowed
         };
         self.random.pick(&[allowed, allowed, refused])
     }

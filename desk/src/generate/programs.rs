@@ -432,13 +432,17 @@ fn load_and_use(random: &mut Random, code: &mut Code, size: usize) {
         code.plain(NOP);
     }
     let function = random.below(4) as u8;
-    match random.below(7) {
+    match random.below(12) {
         0 => code.opq(function, loaded, other),
         1 => code.opq(function, other, loaded),
         6 => code.iaddq(addend(random), random.pick(&[loaded, loaded, other])),
         2 => code.write((CMOV, random.below(7) as u8), (loaded, other), 0),
         3 => code.write((MRMOVQ, 0), (other, loaded), at),
         4 => code.pushq(loaded),
+        7 => code.pushq(random.pick(&[other, RSP])),
+        8 => code.call(code.here() + 9),
+        9 => code.write((RMMOVQ, 0), (loaded, loaded), at),
+        10 => code.write((RMMOVQ, 0), (other, loaded), at),
         _ => code.write((RMMOVQ, 0), (loaded, other), at),
     }
 }

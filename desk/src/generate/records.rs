@@ -4,9 +4,9 @@ use super::calls::any_codes;
 use super::Random;
 use crate::second::arithmetic::Codes;
 use crate::second::letter::{Accessed, Decoded, Executed, Instruction, Machine, Pipeline, Retired};
-use crate::second::machine::{Registers, Status, CYCLE_LIMIT, PLAIN_LIMIT, REGISTER_COUNT};
+use crate::second::machine::{Registers, Status, CYCLE_LIMIT, PLAIN_LIMIT, REGISTER_COUNT, RSP};
 use crate::second::pipeline::{Kinds, Settings};
-use crate::second::table::{row_of, CMOV, IADDQ, JXX, OPQ};
+use crate::second::table::{row_of, CALL, CMOV, IADDQ, JXX, MRMOVQ, OPQ, POPQ, PUSHQ, RMMOVQ};
 use std::fmt::Debug;
 
 /// A record of one of the two engines.
@@ -144,6 +144,9 @@ impl Record for Pipeline {
                 hold(&mut record, place, instruction, random, size);
             }
         }
+        if random.chance(1, 8) {
+            hold_load_and_store(&mut record, random, size);
+        }
         record
     }
 
@@ -191,6 +194,7 @@ impl Record for Pipeline {
 pub(super) fn settings(random: &mut Random) -> Settings {
     Settings {
         rule: random.below(u64::from(Settings::LAST_RULE) + 1) as u8,
+        late: random.chance(1, 2),
     }
 }
 
@@ -270,6 +274,28 @@ fn instruction(random: &mut Random, size: usize) -> Instruction {
         constant: random.pick(&[next, below, constant, constant, constant, constant]),
         next,
     }
+}
+
+/// Puts a load and, just behind it, a store or a call into a record; what is
+/// loaded is often stored or part of an address.
+fn hold_load_and_store(record: &mut Pipeline, random: &mut Random, size: usize) {
+    let loaded = random.pick(&[0, RSP, RSP, 14]);
+    let load = Instruction {
+        code: random.pick(&[MRMOVQ, POPQ]),
+        ra: loaded,
+        ..instruction(random, size)
+    };
+    let other = register(random);
+    let store = Instruction {
+        code: random.pick(&[RMMOVQ, RMMOVQ, PUSHQ, PUSHQ, CALL]),
+        ra: random.pick(&[loaded, loaded, other]),
+        rb: random.pick(&[loaded, other]),
+        ..instruction(random, size)
+    };
+    // Into D and E, E and M, or W and the place of the kept one.
+    let place = random.pick(&[0, 1, 3]);
+    hold(record, place, store, random, size);
+    hold(record, place + 1, load, random, size);
 }
 
 /// How many functions of a code a record may hold, from 0 on.

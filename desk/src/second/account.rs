@@ -92,7 +92,7 @@ impl Account {
         machine.perform(memory);
         let good = parts.filter(|_| machine.status == Status::Aok);
         let previous = self.performed.last();
-        let charge = previous.and_then(|previous| charge(previous.leaves, parts.as_ref()));
+        let charge = previous.and_then(|previous| self.charge(previous.leaves, parts.as_ref()));
         let earlier = previous.map_or(4, |previous| previous.due);
         Performed {
             address: before.address,
@@ -102,6 +102,19 @@ impl Account {
             own_bytes,
             written: good.map_or(0..0, |parts| written(&before, &parts)),
             leaves: good.map_or(Leaves::Nothing, |parts| self.leaves(&before, &parts)),
+        }
+    }
+
+    /// The charge of an instruction; one with a bad fetch status has no sources.
+    fn charge(&self, left: Leaves, parts: Option<&Parts>) -> Option<Kind> {
+        match left {
+            Leaves::Nothing => None,
+            Leaves::Loaded(register) => {
+                let waits = |parts| waited_for(parts, self.settings.late).contains(&register);
+                parts.is_some_and(waits).then_some(Kind::LoadUse)
+            }
+            Leaves::WronglyGuessed => Some(Kind::Mispredict),
+            Leaves::Returned => Some(Kind::Return),
         }
     }
 
@@ -164,22 +177,12 @@ impl Account {
     }
 }
 
-/// The charge of an instruction; one with a bad fetch status has no sources.
-fn charge(left: Leaves, parts: Option<&Parts>) -> Option<Kind> {
-    match left {
-        Leaves::Nothing => None,
-        Leaves::Loaded(register) => {
-            let uses = parts.is_some_and(|parts| sources(parts).contains(&register));
-            uses.then_some(Kind::LoadUse)
-        }
-        Leaves::WronglyGuessed => Some(Kind::Mispredict),
-        Leaves::Returned => Some(Kind::Return),
-    }
-}
-
-/// The sources of an instruction, as document 01 lists them.
-fn sources(parts: &Parts) -> [u8; 2] {
+/// The sources that an instruction waits for: all that document 01 lists, but
+/// with late store data (#106) of rmmovq and pushq the address source alone.
+fn waited_for(parts: &Parts, late: bool) -> [u8; 2] {
     match parts.code {
+        RMMOVQ if late => [parts.rb, NONE],
+        PUSHQ if late => [RSP, NONE],
         CMOV => [parts.ra, NONE],
         RMMOVQ | OPQ => [parts.ra, parts.rb],
         MRMOVQ | IADDQ => [parts.rb, NONE],

@@ -75,7 +75,7 @@ impl Flow {
         if self.status != Status::Aok {
             return retired;
         }
-        let (executed, codes) = execute(&self.e, self.codes);
+        let (mut executed, codes) = execute(&self.e, self.codes);
         let load_use = self.load_use();
         let mispredicted = executed.instruction.is_guessed_wrongly();
         let returning = self.returning();
@@ -87,6 +87,7 @@ impl Flow {
             (into_d, self.predicted) = fetch_stage(memory, fetch_address, self.settings.rule);
         }
         let accessed = access(memory, &self.m);
+        hand_over(self.settings.late, &accessed, &mut executed);
         if load_use || mispredicted {
             self.e = Executing::BUBBLE;
         } else {
@@ -149,7 +150,7 @@ impl Flow {
     #[inline(always)]
     fn charge(&mut self, retiring: &Instruction) {
         let kept = &self.kept;
-        if retiring.has_source(kept.loaded_target()) {
+        if retiring.waits_for(kept.loaded_target(), self.settings.late) {
             self.kinds.load_use += 1;
         } else if kept.is_guessed_wrongly() && kept.function() != 0 {
             self.kinds.mispredict += 2;
@@ -158,11 +159,11 @@ impl Flow {
         }
     }
 
-    /// A load in E whose register is a source in D.
+    /// A load in E whose register is waited for in D.
     #[inline(always)]
     fn load_use(&self) -> bool {
         let loaded = self.e.instruction.loaded_target();
-        self.d.instruction.has_source(loaded)
+        self.d.instruction.waits_for(loaded, self.settings.late)
     }
 
     /// A ret in D, E or M.
@@ -243,6 +244,16 @@ fn execute(stage: &Executing, codes: Codes) -> (Accessing, Codes) {
         a,
     };
     (made, codes_after)
+}
+
+/// Late store data (#106): the word loaded in M goes straight to a store in E of
+/// the register loaded, in place of what decode took for it.
+#[inline(always)]
+fn hand_over(late: bool, accessed: &Writing, executed: &mut Accessing) {
+    let loaded = accessed.instruction.loaded_target();
+    if late && executed.instruction.stores(loaded) {
+        executed.a = accessed.loaded;
+    }
 }
 
 /// The work of M. A load outside memory reads 0, a store outside writes

@@ -21,6 +21,9 @@ pub struct Settings {
     /// How jumps are predicted (#105): 0 taken; 1 conditional jumps never taken;
     /// 2 taken exactly when C is below the next address, without sign.
     pub rule: u8,
+    /// Late store data (#106): rmmovq and pushq wait for a load of their address
+    /// source alone, as a word loaded in M goes straight to a store in E.
+    pub late: bool,
 }
 
 impl Settings {

@@ -2,7 +2,7 @@
 
 use super::fetch::fetch;
 use super::machine::{Status, NONE};
-use super::table::{roles, row_of, CALL, CMOV, IADDQ, JXX, NOP, OPQ};
+use super::table::{roles, row_of, CALL, CMOV, IADDQ, JXX, NOP, OPQ, PUSHQ, RMMOVQ};
 use std::fmt;
 
 /// An instruction with its own address, as the stages carry it, or a bubble.
@@ -191,10 +191,25 @@ impl Instruction {
         self.word & DECIDES == (JXX as u64) << CODE | 1 << DIFFER
     }
 
-    /// Whether a register is one of the sources; 15 matches nothing.
+    /// Whether a loaded register is waited for: as a source, but with late store
+    /// data (#106) not as the one that a store stores. 15 matches nothing.
     #[inline(always)]
-    pub fn has_source(&self, register: u8) -> bool {
-        register != NONE && (register == self.source_a() || register == self.source_b())
+    pub fn waits_for(&self, loaded: u8, late: bool) -> bool {
+        let for_a = loaded == self.source_a() && !(late && self.is_store());
+        loaded != NONE && (for_a || loaded == self.source_b())
+    }
+
+    /// Whether this stores a register's value, and that of this one; 15 matches
+    /// nothing.
+    #[inline(always)]
+    pub(super) fn stores(&self, register: u8) -> bool {
+        register != NONE && register == self.source_a() && self.is_store()
+    }
+
+    /// A store whose word is source A and whose address is made of source B.
+    #[inline(always)]
+    fn is_store(&self) -> bool {
+        matches!(self.code(), RMMOVQ | PUSHQ)
     }
 
     /// Whether a record may hold this: registers up to 15, a code that has

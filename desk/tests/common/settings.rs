@@ -4,15 +4,23 @@
 use super::tally::{Classes, Tally};
 use desk::generate::Call;
 use desk::second::letter::{Instruction, Pipeline};
-use desk::second::machine::{Refusal, Status};
+use desk::second::machine::{Refusal, Status, NONE, RSP};
 use desk::second::pipeline::Settings;
+use desk::second::table::{CALL, MRMOVQ, POPQ, PUSHQ, RMMOVQ};
 
 /// Every setting that is not refused.
-pub const ALL: [Settings; 3] = [
-    Settings { rule: 0 },
-    Settings { rule: 1 },
-    Settings { rule: 2 },
+pub const ALL: [Settings; 6] = [
+    settings(0, false),
+    settings(1, false),
+    settings(2, false),
+    settings(0, true),
+    settings(1, true),
+    settings(2, true),
 ];
+
+const fn settings(rule: u8, late: bool) -> Settings {
+    Settings { rule, late }
+}
 
 const RULES: [&str; 7] = ["0", "1", "2", "3", "4", "255", "another"];
 const GUESSES: [&str; 4] = [
@@ -43,9 +51,39 @@ const BY_RULE: [[&str; 3]; 3] = [
 const TAKEN: [&str; 2] = [GUESSES[2], GUESSES[3]];
 const SKIPPED: [&str; 2] = [GUESSES[0], GUESSES[1]];
 
+/// What a store, or a call, behind a load has of the loaded register.
+pub const STORES: [&str; 7] = [
+    "rmmovq of it",
+    "rmmovq at it",
+    "rmmovq of it at it",
+    "pushq of it",
+    "pushq at it",
+    "pushq of it at it",
+    "call at it",
+];
+/// Stores behind loads, in D and E, in E and M, and in W and kept, without late
+/// store data and with it.
+const BEHIND_LOADS: [[&str; 2]; 3] = [
+    ["in D behind a load", "in D behind a load, late"],
+    ["in E behind a load", "in E behind a load, late"],
+    ["in W behind a load", "in W behind a load, late"],
+];
+const GIVEN: [&str; 2] = ["rule given", "rule given, late"];
+
 /// Every class that has to occur, under its heading.
 pub const CLASSES: &Classes = &[
-    ("rule given", &RULES),
+    (GIVEN[0], &RULES),
+    (GIVEN[1], &RULES),
+    (BEHIND_LOADS[0][0], &STORES),
+    (BEHIND_LOADS[0][1], &STORES),
+    (BEHIND_LOADS[1][0], &STORES),
+    (BEHIND_LOADS[1][1], &STORES),
+    (BEHIND_LOADS[2][0], &STORES),
+    (BEHIND_LOADS[2][1], &STORES),
+    (
+        "rmmovq of rsp in E behind popq of it",
+        &["late", "not late"],
+    ),
     (
         "refused for the rule",
         &["alone", "and the record", "and another refusal"],
@@ -85,7 +123,8 @@ pub fn rule_name(rule: u8) -> &'static str {
 /// with them.
 pub fn count(tally: &mut Tally, call: &Call<Pipeline>) {
     let record = &call.record;
-    tally.count("rule given", rule_name(record.settings.rule));
+    let late = usize::from(record.settings.late);
+    tally.count(GIVEN[late], rule_name(record.settings.rule));
     let others = Pipeline {
         settings: Settings::default(),
         ..*record
@@ -101,12 +140,65 @@ pub fn count(tally: &mut Tally, call: &Call<Pipeline>) {
     }
     let stopping = record.w.is_some_and(|w| w.status != Status::Aok);
     if reasons.is_empty() && record.status == Status::Aok {
+        let [d, e, m, w, kept] = record.instructions();
         if let (Some(kept), Some(_)) = (record.kept, record.w) {
             count_jump(tally, record, 2, &kept.instruction, kept.holds);
         }
+        count_store(tally, BEHIND_LOADS[2][late], w, kept);
         if !stopping {
             count_clock(tally, record);
+            count_store(tally, BEHIND_LOADS[0][late], d, e);
+            count_store(tally, BEHIND_LOADS[1][late], e, m);
+            count_moved_rsp(tally, record.settings.late, e, m);
         }
+    }
+}
+
+/// What a store, or a call, has of a loaded register; none where it is nothing.
+pub fn store_name(loaded: u8, code: u8, (ra, rb): (u8, u8)) -> Option<&'static str> {
+    let name = match (code, ra == loaded, rb == loaded, loaded == RSP) {
+        _ if loaded == NONE => return None,
+        (RMMOVQ, true, false, _) => 0,
+        (RMMOVQ, false, true, _) => 1,
+        (RMMOVQ, true, true, _) => 2,
+        (PUSHQ, true, _, false) => 3,
+        (PUSHQ, false, _, true) => 4,
+        (PUSHQ, true, _, true) => 5,
+        (CALL, _, _, true) => 6,
+        _ => return None,
+    };
+    Some(STORES[name])
+}
+
+/// A store that was fetched with AOK, and a load before it.
+fn count_store(
+    tally: &mut Tally,
+    heading: &'static str,
+    store: Option<Instruction>,
+    load: Option<Instruction>,
+) {
+    let (Some(store), Some(load)) = (store, load) else {
+        return;
+    };
+    let loads = matches!(load.code, MRMOVQ | POPQ) && store.status == Status::Aok;
+    let name = store_name(load.ra, store.code, (store.ra, store.rb));
+    if let (Some(name), true) = (name, loads) {
+        tally.count(heading, name);
+    }
+}
+
+/// popq of rsp, which has two words for it, before rmmovq of rsp.
+fn count_moved_rsp(
+    tally: &mut Tally,
+    late: bool,
+    store: Option<Instruction>,
+    load: Option<Instruction>,
+) {
+    let names =
+        |held: Option<Instruction>, code| held.is_some_and(|h| (h.code, h.ra) == (code, RSP));
+    if names(store, RMMOVQ) && names(load, POPQ) {
+        let name = if late { "late" } else { "not late" };
+        tally.count("rmmovq of rsp in E behind popq of it", name);
     }
 }
 

@@ -49,7 +49,7 @@ impl Block for Machine {
 
 impl Block for Pipeline {
     fn words(&self) -> Vec<u64> {
-        let mut words = vec![0; SETTINGS + 1];
+        let mut words = vec![0; SETTINGS + 2];
         words[0] = self.predicted;
         let state = state(&self.registers, self.codes, self.status, self.last);
         words[PIPELINE_STATE..][..STATE].copy_from_slice(&state);
@@ -80,6 +80,7 @@ impl Block for Pipeline {
             put(&mut words[KEPT..], &kept.instruction, &[holds(kept.holds)]);
         }
         words[SETTINGS] = u64::from(self.settings.rule);
+        words[SETTINGS + 1] = u64::from(self.settings.late);
         words
     }
 
@@ -105,6 +106,7 @@ impl Block for Pipeline {
             kept: kept_from(&words[KEPT..]),
             settings: Settings {
                 rule: byte(words[SETTINGS]),
+                late: truth(words[SETTINGS + 1]),
             },
         }
     }

@@ -3,6 +3,9 @@ use borrow.Author.Needs.{needs}
 use Rattle.flow.proofs.signals_now.Statement.{statement}
 use Rattle.flow.proofs.signals_now.Tie as tie
 
+awaited-requires : tie.Need-awaited-requires
+awaited-requires c κs = search needs
+
 meets-either-requires : tie.Need-meets-either-requires
 meets-either-requires c κs = search needs
 
@@ -22,6 +25,7 @@ pub signals-now-spec : {M : Type 1} → statement M
 signals-now-spec =
     tie.close
     (tie.spec
+    awaited-requires
     meets-either-requires
     wrong-requires
     ret-on-the-way-requires

@@ -7,8 +7,8 @@ use Rattle.retiring.proofs.reason_behind.Tie as tie
 loaded-target-requires : tie.Need-loaded-target-requires
 loaded-target-requires c κs = search needs
 
-source-a-requires : tie.Need-source-a-requires
-source-a-requires c κs = search needs
+awaited-a-requires : tie.Need-awaited-a-requires
+awaited-a-requires c κs = search needs
 
 source-b-requires : tie.Need-source-b-requires
 source-b-requires c κs = search needs
@@ -36,7 +36,7 @@ reason-behind-spec =
     tie.close
     (tie.spec
     loaded-target-requires
-    source-a-requires
+    awaited-a-requires
     source-b-requires
     meets-either-requires
     returns

@@ -25,7 +25,9 @@ impl Pipeline {
         if let Some(m) = before.m {
             m.access().store(memory);
         }
-        self.m = before.e.map(|e| e.executed(before.codes));
+        self.m = before
+            .e
+            .map(|e| before.handed(e, &self.w).executed(before.codes));
         self.codes = before
             .e
             .map_or(before.codes, |e| e.codes_after(before.codes));
@@ -77,7 +79,7 @@ impl Pipeline {
     fn charge(&mut self, retiring: &Instruction) {
         let Some(kept) = self.kept else { return };
         let before = kept.instruction;
-        if retiring.has_source(before.loaded_target()) {
+        if retiring.waits_for(before.loaded_target(), self.settings.late) {
             self.kinds.load_use += 1;
         }
         // Function 0 is the jump without a condition.
@@ -132,10 +134,21 @@ impl Pipeline {
         }
     }
 
-    /// A load in E whose register is a source in D.
+    /// With late store data, a store in E is handed the word that M has loaded of
+    /// the register it stores.
+    fn handed(&self, e: Decoded, m: &Option<Accessed>) -> Decoded {
+        let stored = e.instruction.stored();
+        let loads_it = |m: &&Accessed| stored != NONE && m.instruction.loaded_target() == stored;
+        match m.as_ref().filter(loads_it) {
+            Some(m) if self.settings.late => Decoded { a: m.word, ..e },
+            _ => e,
+        }
+    }
+
+    /// A load in E whose register is waited for in D.
     pub fn load_use(&self) -> bool {
         match (&self.d, &self.e) {
-            (Some(d), Some(e)) => d.has_source(e.instruction.loaded_target()),
+            (Some(d), Some(e)) => d.waits_for(e.instruction.loaded_target(), self.settings.late),
             _ => false,
         }
     }

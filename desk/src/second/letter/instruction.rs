@@ -35,9 +35,24 @@ impl Instruction {
         }
     }
 
-    /// Whether a register is one of the sources; 15 matches nothing.
-    pub fn has_source(&self, register: u8) -> bool {
-        register != NONE && self.sources().contains(&register)
+    /// Whether it waits for a loaded register: for any of its sources, but with
+    /// late store data (#106) rmmovq and pushq only for their address source. 15
+    /// matches nothing.
+    pub fn waits_for(&self, loaded: u8, late: bool) -> bool {
+        let [a, b] = self.sources();
+        let waited = match self.code {
+            RMMOVQ | PUSHQ if late => [b, b],
+            _ => [a, b],
+        };
+        loaded != NONE && waited.contains(&loaded)
+    }
+
+    /// The register that it stores, by rmmovq or pushq.
+    pub fn stored(&self) -> u8 {
+        match self.code {
+            RMMOVQ | PUSHQ => self.sources()[0],
+            _ => NONE,
+        }
     }
 
     /// The register that takes the result. Only a false cmov loses its own.

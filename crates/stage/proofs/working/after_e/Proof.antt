@@ -9,6 +9,9 @@ enum-told c = search needs
 enum-known-e : tie.Need-enum-known-e
 enum-known-e c = search needs
 
+handed-a-requires : tie.Need-handed-a-requires
+handed-a-requires c κs = search needs
+
 execute-requires : tie.Need-execute-requires
 execute-requires c κs = search needs
 
@@ -19,4 +22,4 @@ returns-2 : tie.Need-returns-2
 returns-2 c = search (needs, e-works)
 
 pub after-e-spec : {M : Type 1} → statement M
-after-e-spec = tie.close (tie.spec enum-told enum-known-e execute-requires returns returns-2)
+after-e-spec = tie.close (tie.spec enum-told enum-known-e handed-a-requires execute-requires returns returns-2)

@@ -1,0 +1,9 @@
+use Rattle.stage.proofs.Ways.{late-is}
+use Rattle.stage.proofs.signals.takes_late.Statement.{statement}
+use Rattle.stage.proofs.signals.takes_late.Tie as tie
+
+returns : tie.Need-returns
+returns c = late-is _ _
+
+pub takes-late-spec : {M : Type 1} → statement M
+takes-late-spec = tie.close (tie.spec returns)
