@@ -1,5 +1,5 @@
--- A law of `Parse` for each way out, in the order of the checks. What is past all of them is the instruction: `whole` is the record of facts where
--- no byte is missing, `sized` where the table has given the length, `named` where the named halves of the register byte have been tested.
+-- A law of `Parse` for each way out, in the order of the checks. What is past all of them is the instruction. A `let` names the record of facts at a place
+-- by its type, for which `search` finds the place: `there` where the first byte is, `whole` where no byte is missing, `sized` behind the table's length.
 use Rattle.fetching.proofs.Parse.{room, outside, no-function, cut-short, names-none, halts, fetches, second}
 use Prim.Native.Nat.{_-_}
 use lib.ListN.{length}
@@ -47,9 +47,9 @@ byte-of-requires c κs = search needs
 
 register-byte-requires : tie.Need-register-byte-requires
 register-byte-requires c κs =
-    let whole = c .before in
-    let sized = whole .before .before in
-    let start = sized .before .before .before .before .before in
+    let whole : tie.Else3 = search in
+    let sized : tie.After-size-of = search in
+    let start : tie.Start = search in
     λ h. omega (
       arith,
       second _ (λ e. h (c .byte-of .ensures ∙ e)),
@@ -73,9 +73,9 @@ returns-5 c = search (needs, halts)
 
 constant-of-requires : tie.Need-constant-of-requires
 constant-of-requires c κs =
-    let whole = c .before .before .before .before .before in
-    let sized = whole .before .before in
-    let start = sized .before .before .before .before .before in
+    let whole : tie.Else3 = search in
+    let sized : tie.After-size-of = search in
+    let start : tie.Start = search in
     omega (arith, room (sized .size-of .result) (length (start .args .memory .now) - start .args .address) (whole .if3 .left))
 
 cast-sum : tie.Need-cast-sum
@@ -86,13 +86,20 @@ sum-requires c κs = search needs
 
 returns-6 : tie.Need-returns-6
 returns-6 c =
-    let named = c .before .before .before .before in
-    let whole = named .before .before .before in
-    let sized = whole .before .before in
-    let there = sized .before .before .before in
-    fetches _ _ _ (there .if1 .left) (sized .before .functions-of .ensures) _ (whole .before .if2 .left) (sized .size-of .ensures) _ _ _ (whole .if3 .left)
-    (named .before .before .byte-of .ensures) (named .before .register-byte .ensures) (named .misnamed .ensures) _ _ (c .before .before .before .if4 .left)
-    (c .before .before .if5 .left) (c .before .constant-of .ensures) (c .sum .ensures)
+    let constant : tie.After-constant-of = search in
+    let runs : tie.Else5 = search in
+    let named : tie.Else4 = search in
+    let tested : tie.After-misnamed = search in
+    let pair : tie.After-register-byte = search in
+    let byte : tie.After-byte-of = search in
+    let whole : tie.Else3 = search in
+    let known : tie.Else2 = search in
+    let sized : tie.After-size-of = search in
+    let functions : tie.After-functions-of = search in
+    let there : tie.Else1 = search in
+    fetches _ _ _ (there .if1 .left) (functions .functions-of .ensures) _ (known .if2 .left) (sized .size-of .ensures) _ _ _ (whole .if3 .left)
+    (byte .byte-of .ensures) (pair .register-byte .ensures) (tested .misnamed .ensures) _ _ (named .if4 .left) (runs .if5 .left)
+    (constant .constant-of .ensures) (c .sum .ensures)
 
 pub instruction-at-spec : {M : Type 1} → statement M
 instruction-at-spec =

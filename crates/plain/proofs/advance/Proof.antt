@@ -1,5 +1,5 @@
--- One instruction, stage by stage: each `let` names the record of facts behind a stage's call. The two ways out are those of the definition's step,
--- the stop (`Ways` `stops`) and the instruction performed (`Ways` `performs`).
+-- One instruction, stage by stage: a `let` names the record of facts behind a stage's call by its type, for which `search` finds the place. The two ways
+-- out are those of the definition's step, the stop (`Ways` `stops`) and the instruction performed (`Ways` `performs`).
 use Rattle.plain.proofs.Ways.{stops, performs}
 use borrow.Author.Needs.{needs}
 use Rattle.plain.proofs.advance.Statement.{statement}
@@ -28,14 +28,15 @@ same-length c = search needs
 
 returns : tie.Need-returns
 returns c =
-    let tested = c .before .before in
-    let access = tested .before in
-    let execute = access .before .before in
-    let decode = execute .before .before in
-    let fetch = decode .before in
-    let start = fetch .before .before .before in
+    let stops-here : tie.Then1 = search in
+    let tested : tie.After-is-bad = search in
+    let access : tie.After-access = search in
+    let execute : tie.After-execute = search in
+    let decode : tie.After-decoded = search in
+    let fetch : tie.After-instruction-at = search in
+    let start : tie.Start = search in
     stops _ _ _ _ _ _ _ (start .pre .1) (fetch .instruction-at .ensures) (decode .decoded .ensures) (execute .execute .ensures) (access .access .ensures)
-    (tested .is-bad .ensures) _ (c .before .if1 .taken) (c .after-stop .ensures)
+    (tested .is-bad .ensures) _ (stops-here .if1 .taken) (c .after-stop .ensures)
 
 update-requires : tie.Need-update-requires
 update-requires c κs = search needs
@@ -48,14 +49,14 @@ same-length-2 c = search needs
 
 returns-2 : tie.Need-returns-2
 returns-2 c =
-    let updated = c .before .before .before in
-    let runs = updated .before .before in
-    let tested = runs .before in
-    let access = tested .before in
-    let execute = access .before .before in
-    let decode = execute .before .before in
-    let fetch = decode .before in
-    let start = fetch .before .before .before in
+    let updated : tie.After-update = search in
+    let runs : tie.Else1 = search in
+    let tested : tie.After-is-bad = search in
+    let access : tie.After-access = search in
+    let execute : tie.After-execute = search in
+    let decode : tie.After-decoded = search in
+    let fetch : tie.After-instruction-at = search in
+    let start : tie.Start = search in
     performs _ _ _ _ _ _ _ (start .pre .1) (fetch .instruction-at .ensures) (decode .decoded .ensures) (execute .execute .ensures) (access .access .ensures)
     (tested .is-bad .ensures) _ _ (runs .if1 .left) (updated .update .ensures) (c .after-performed .ensures)
 
