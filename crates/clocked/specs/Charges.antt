@@ -10,7 +10,7 @@ use Rattle.clocked.specs.Prediction.{Core, mispredicted, loadUse}
 use Rattle.machine.specs.Plain.{Plain, fetched, accessed, steps}
 
 -- "Charge of instruction k ≥ 2, by its predecessor: 1 if that loads a register among k's sources; 2 if it was a conditional jump not
--- taken; 3 if ret; else 0."
+-- taken; 3 if ret; else 0." "The charge of 2 falls after a conditional jump whose outcome differs from the prediction" (02, #105)
 unfoldable pub reasonBehind : Core → Retired → Instruction → Reason
 reasonBehind g k j =
     let i = k .instruction in

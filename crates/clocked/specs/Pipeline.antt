@@ -113,7 +113,7 @@ unfoldable pub wrong : Core → StageM → Bool
 wrong g bubbleM = false
 wrong g (inM x) = mispredicted g (x .instruction) (x .holds)
 
--- "misprediction (jXX in E, condition false)"
+-- "misprediction (jXX in E, condition false)"; in the words of 02, #105, a jump "whose outcome differs from the prediction"
 unfoldable pub mispredicts : Core → Piped → Bool
 mispredicts g p = wrong g (afterE (executing g p) (p .pipeline .codes))
 
@@ -147,7 +147,8 @@ unfoldable pub returnedTo : StageW → ℕ → ℕ
 returnedTo bubbleW f = f
 returnedTo (inW w) f = cond (is ret (w .instruction)) (w .word) f
 
--- "if M holds a jump whose condition was false, that jump's next address"
+-- "if M holds a jump whose condition was false, that jump's next address"; and "a wrongly taken guess and a wrongly skipped one are both
+-- mended by the fetch address when the jump stands in M" (02, #105)
 unfoldable pub mended : Core → StageM → ℕ → ℕ
 mended g bubbleM f = f
 mended g (inM x) f = cond (mispredicted g (x .instruction) (x .holds)) (turned (x .instruction) (x .holds)) f
