@@ -12,7 +12,7 @@ unfoldable pub computing : Unit {0}
 unfolding
     Types.statusNumber Types.isBad Types.codesNumber
     Words.sum Words.difference Words.number Words.placed Words.signed Words.outside
-    Memory.inside Memory.load Memory.store Memory.value Memory.written
+    Memory.codeEnd Memory.inside Memory.load Memory.store Memory.value Memory.written
     Table.table Table.rowOf Table.is
     Fetch.sizeAt Fetch.ownBytes Fetch.stopping Fetch.namesA Fetch.namesB Fetch.misnamed Fetch.checked Fetch.half Fetch.constantIn Fetch.parsed Fetch.fetch
     Stages.register Stages.sourceA Stages.sourceB Stages.decode Stages.operated Stages.overflows Stages.operatedCodes Stages.codesBy

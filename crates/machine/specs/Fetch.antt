@@ -6,7 +6,7 @@ use lib.Dec.{ltb, leb, eqb}
 use lib.ListN.{length, getD, take, drop}
 use Rattle.machine.specs.Types.{Instruction, Status, aok, hlt, adr, ins}
 use Rattle.machine.specs.Words.{sum, number}
-use Rattle.machine.specs.Memory.{Memory}
+use Rattle.machine.specs.Memory.{Memory, codeEnd}
 use Rattle.machine.specs.Table.{rowOf, RegisterByte, noByte, bothNamed, onlyB, onlyA}
 
 -- the table length of the instruction at a, by the code in its first byte
@@ -15,7 +15,7 @@ sizeAt m a = rowOf (getD (m .bytes) a 0 / 16) .size
 
 -- "An instruction's bytes are its table length from its address, cut at N."
 unfoldable pub ownBytes : Memory → ℕ → List ℕ
-ownBytes m a = take (sizeAt m a) (drop a (m .bytes))
+ownBytes m a = take (sizeAt m a) (drop a (take (codeEnd m a) (m .bytes)))
 
 -- "An instruction fetched with status not AOK travels as a nop with that status; its predicted address is its own."
 unfoldable pub stopping : ℕ → Status → Instruction

@@ -7,7 +7,7 @@ use mathlib.Core.List.{[], _∷_, _++_}
 use lib.Seq.{set-set}
 use Rattle.machine.specs.Types.{isBad}
 use Rattle.machine.specs.Words.{sum, difference, placed}
-use Rattle.machine.specs.Memory.{Memory, lent, size, Registers, inside, load, store, value, written}
+use Rattle.machine.specs.Memory.{Memory, lent, codeEnd, Registers, inside, load, store, value, written}
 use Rattle.machine.specs.Table.{table, rowOf, is, unknownCode}
 use Rattle.machine.specs.Fetch.{namesA, namesB, half, stopping}
 use Rattle.machine.specs.Stages
@@ -229,7 +229,7 @@ unfolding step fetched decoded executed accessed stoppedBy access accessStatus e
 stops s bad r h e = rw (r, fetch-bad (s .memory) (PC s) bad h e, h)
 
 -- halt, 0x00: HLT
-pub halt : (s : Plain) → isStopped s ≡ false → PC s < size (s .memory) → M₁ (s .memory) (PC s) ≡ 0 → step s ≡ stopped s hlt
+pub halt : (s : Plain) → isStopped s ≡ false → PC s < codeEnd (s .memory) (PC s) → M₁ (s .memory) (PC s) ≡ 0 → step s ≡ stopped s hlt
 unfolding fetched isBad
 halt s r h e = stops s hlt r refl (fetch-halt (s .memory) (PC s) h e)
 
