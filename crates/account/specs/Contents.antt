@@ -10,7 +10,7 @@ use borrow.Author.Tests.{le-ltb, ltb-false, leb-false, ne-eqb}
 use lib.Dec.{ltb, leb, eqb, eqb·suc-zero}
 use lib.ListN.{length, getD, set, take, drop, length-set, List·getD-eq-default}
 use lib.Seq.{getD-set-same, getD-set-other, getD-drop}
-use Rattle.account.specs.Names.{Pipeline, Status, Instruction, Executed, Accessed, Kept}
+use Rattle.account.specs.Names.{Pipeline, Status, Fault, Instruction, Executed, Accessed, Kept}
 use Rattle.account.specs.Names.{StageD, bubbleD, inD, StageE, bubbleE, inE, StageM, bubbleM, inM, StageW, bubbleW, inW}
 use Rattle.machine.specs.Words.{placed}
 use Rattle.machine.specs.Memory.{Memory, codeEnd, lent, size, inside, store}
@@ -72,9 +72,9 @@ bytes-stored x m h = go (stores (x .instruction)) (inside m (accessAddress x))
     go true true = bytes-placed 8 (m .bytes) (accessAddress x) (storedWord x) h
 
 -- A FETCHED INSTRUCTION is not refused
-stopping-fits : (a : ℕ) (x : Status) → instructionRefused (stopping a x) ≡ false
+stopping-fits : (a : ℕ) (x : Status) (y : Fault) → instructionRefused (stopping a x y) ≡ false
 unfolding instructionRefused stopping rowOf table is
-stopping-fits a x = refl
+stopping-fits a x y = refl
 
 half-fits : (named : Bool) (x : ℕ) → x < 16 → ltb 15 (half named x) ≡ false
 unfolding half

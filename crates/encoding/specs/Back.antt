@@ -11,6 +11,7 @@ use lib.Seq.{take-at, take-length, append-snoc, getD-append-seam, drop-append-se
 use borrow.Author.Tests.{leb-false, ltb-false, ne-eqb, le-ltb, lt-ltb}
 use Rattle.machine.specs.declared.Instruction.{Instruction}
 use Rattle.machine.specs.declared.Status.the-variants.{Aok as aok, Hlt as hlt}
+use Rattle.machine.specs.declared.Fault.the-variants.{NoFault as noFault}
 use Rattle.machine.specs.Words.{sum, number}
 use Rattle.machine.specs.Memory.{lent, codeEnd}
 use Rattle.machine.specs.Table.{Row, RegisterByte, noByte, bothNamed, onlyB, onlyA, table, rowOf}
@@ -38,6 +39,7 @@ instructionAt a i =
       rb = i .rb;
       constant = i .constant;
       next = sum a (rowOf (i .code) .size);
+      fault = noFault;
     })
 
 -- THE BYTES, read as a fetch reads them
@@ -149,6 +151,7 @@ taken a n i =
       rb = i .rb;
       constant = i .constant;
       next = sum a (rowOf (i .code) .size);
+      fault = noFault;
     })
 
 parsed-is : (a : ℕ) (b : List ℕ) → parsed a b ≡ taken a (length b) (fieldsIn b)

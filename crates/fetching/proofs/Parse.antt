@@ -9,10 +9,14 @@ use lib.Dec.{T, eqb, ltb, leb}
 use lib.ListN.{length}
 use Rattle.machine.specs.declared.Status.the-variants.{Aok as aok, Hlt as hlt, Adr as adr, Ins as ins}
 use Rattle.machine.specs.declared.Instruction.{Instruction}
+use Rattle.machine.specs.declared.Fault.{Fault}
+use Rattle.machine.specs.declared.Fault.the-variants.{NoFault as noFault, FirstMissing as firstMissing, NoCode as noCode, NoFunction as noFunction}
+use Rattle.machine.specs.declared.Fault.the-variants.{LaterMissing as laterMissing, NoRegister as noRegister}
+use Rattle.machine.specs.declared.Blame.{Blame}
 use Rattle.machine.specs.Words.{sum, number}
 use Rattle.machine.specs.Memory.{Memory, lent, size, codeEnd, inside, load}
 use Rattle.machine.specs.Table.{rowOf, RegisterByte, noByte, bothNamed, onlyB, onlyA}
-use Rattle.machine.specs.Fetch.{stopping, namesA, namesB, misnamed, half, checked, fetch}
+use Rattle.machine.specs.Fetch.{stopping, notInTable, namesA, namesB, misnamed, half, checked, fetch, blameOf}
 use Rattle.machine.specs.Runs.{sizeRefused, lowest, fetchAnswer}
 use Rattle.published.specs.Lengths.{hasRegisterByte, length-rule, two}
 use Rattle.published.specs.Fetching.{M₁, M₈, aokAt, fetch-is}
@@ -69,20 +73,20 @@ pub end-lent : (b : List ℕ) (a : ℕ) → length b ≡ codeEnd (lent b) a
 unfolding codeEnd
 end-lent b a = refl
 
-pub outside : (m : Memory) (a n : ℕ) (r : Instruction) → n ≡ codeEnd m a → n ≤ a → r ≡ stopping a adr → r ≡ fetch m a
+pub outside : (m : Memory) (a n : ℕ) (r : Instruction) → n ≡ codeEnd m a → n ≤ a → r ≡ stopping a adr firstMissing → r ≡ fetch m a
 unfolding checked aokAt
 outside m a n r en h e = cc (fetch-is m a, le-leb n a h)
 
 module _ (m : Memory) (a n f : ℕ) (en : n ≡ codeEnd m a) (h : a < n) (ef : f ≡ rowOf (codeAt m a) .functions) where
-  pub no-function : (r : Instruction) → not (ltb (M₁ m a % 16) f) ≡ true → r ≡ stopping a ins → r ≡ fetch m a
-  unfolding checked aokAt
-  no-function r p e = cc (fetch-is m a, lt-leb n a h, le-leb f (M₁ m a % 16) (ltb-false (M₁ m a % 16) f (not-true _ p)))
+  pub no-function : (r : Instruction) (t : Fault) → not (ltb (M₁ m a % 16) f) ≡ true → t ≡ cond (eqb f 0) noCode noFunction → r ≡ stopping a ins t → r ≡ fetch m a
+  unfolding checked notInTable aokAt
+  no-function r t p et e = cc (fetch-is m a, lt-leb n a h, le-leb f (M₁ m a % 16) (ltb-false (M₁ m a % 16) f (not-true _ p)))
 
   module _ (z : ℕ) (p : not (ltb (M₁ m a % 16) f) ≡ false) (ez : z ≡ rowOf (codeAt m a) .size) where
     in-table : leb f (M₁ m a % 16) ≡ false
     in-table = lt-leb f (M₁ m a % 16) (ltb-true (M₁ m a % 16) f (not-false _ p))
 
-    pub cut-short : (r : Instruction) → not (leb z (n - a)) ≡ true → r ≡ stopping a adr → r ≡ fetch m a
+    pub cut-short : (r : Instruction) → not (leb z (n - a)) ≡ true → r ≡ stopping a adr laterMissing → r ≡ fetch m a
     unfolding checked aokAt
     cut-short r q e =
         let short = leb-false z (n - a) (not-true _ q) in
@@ -111,16 +115,16 @@ module _ (m : Memory) (a n f : ℕ) (en : n ≡ codeEnd m a) (h : a < n) (ef : f
           fetch-is m a ∙ rw (← en, lt-leb n a h, ← ef, in-table, long)
           (ap (λ (x : Bool). checked false false false x (eqb (codeAt m a) 0) (aokAt m a (codeAt m a))) tested)
 
-      pub names-none : (r : Instruction) → t ≡ true → r ≡ stopping a ins → r ≡ fetch m a
+      pub names-none : (r : Instruction) → t ≡ true → r ≡ stopping a ins noRegister → r ≡ fetch m a
       unfolding checked aokAt
       names-none r k e = cc through
 
-      pub halts : (r : Instruction) → t ≡ false → codeAt m a ≡ 0 → r ≡ stopping a hlt → r ≡ fetch m a
+      pub halts : (r : Instruction) → t ≡ false → codeAt m a ≡ 0 → r ≡ stopping a hlt noFault → r ≡ fetch m a
       unfolding checked aokAt
       halts r k o e = cc (through, eq-eqb (codeAt m a) 0 o)
 
       pub fetches : (c next : ℕ) → t ≡ false → (codeAt m a ≡ 0 → ⊥) → c ≡ cond (ltb 8 z) (M₈ m (a + (z - 8))) 0 → next ≡ sum a z
-          → record { address = a; status = aok; code = codeAt m a; function = M₁ m a % 16; ra = b / 16; rb = b % 16; constant = c; next = next } ≡ fetch m a
+          → record { address = a; status = aok; code = codeAt m a; function = M₁ m a % 16; ra = b / 16; rb = b % 16; constant = c; next = next; fault = noFault } ≡ fetch m a
       unfolding checked aokAt
       fetches c next k o ec en = cc (through, ne-eqb (codeAt m a) 0 o, high-is, low-is)
 
@@ -134,12 +138,12 @@ pub no-constant : (b : List ℕ) (at n : ℕ) → n ≤ 8 → 0 ≡ cond (ltb 8 
 no-constant b at n short = cc (le-ltb 8 n short)
 
 -- THE OPEN ENTRY
-pub refused : (m : Memory) (a : ℕ) (t : Bool) (i : Instruction) → t ≡ sizeRefused (size m) → t ≡ true → i ≡ stopping a adr
-    → record { number = 1; instruction = i } ≡ fetchAnswer m a
+pub refused : (m : Memory) (a : ℕ) (t : Bool) (i : Instruction) (x : Blame) → t ≡ sizeRefused (size m) → t ≡ true → i ≡ stopping a adr firstMissing → x ≡ blameOf m i
+    → record { number = 1; instruction = i; blame = x } ≡ fetchAnswer m a
 unfolding fetchAnswer lowest
-refused m a t i e h s = cc
+refused m a t i x e h s b = cc
 
-pub answered : (m : Memory) (a : ℕ) (t : Bool) (i : Instruction) → t ≡ sizeRefused (size m) → t ≡ false → i ≡ fetch m a
-    → record { number = 0; instruction = i } ≡ fetchAnswer m a
+pub answered : (m : Memory) (a : ℕ) (t : Bool) (i : Instruction) (x : Blame) → t ≡ sizeRefused (size m) → t ≡ false → i ≡ fetch m a → x ≡ blameOf m i
+    → record { number = 0; instruction = i; blame = x } ≡ fetchAnswer m a
 unfolding fetchAnswer lowest
-answered m a t i e h s = cc
+answered m a t i x e h s b = cc

@@ -14,7 +14,7 @@ use Rattle.machine.specs.Words.{sum, number}
 use Rattle.machine.specs.Memory.{Memory, size, codeEnd}
 use Rattle.machine.specs.Table.{Row, rowOf, table, unknownCode}
 use Rattle.machine.specs.Fetch.{sizeAt, ownBytes, stopping, checked, namesA, namesB, half, constantIn, parsed, fetch, misnamed}
-use Rattle.published.specs.Names.{Status, aok, hlt, Instruction}
+use Rattle.published.specs.Names.{Status, aok, hlt, Instruction, noFault}
 use Rattle.published.specs.Lengths.{length-rule, no-functions, two, parts, hasRegisterByte}
 
 -- M₁[a], a byte, and M₈[a], the eight bytes from a on
@@ -41,6 +41,7 @@ aokAt m a code =
       rb = half (namesB (row .byte)) (M₁ m (a + 1) % 16);
       constant = constantAt m a (row .size);
       next = sum a (row .size);
+      fault = noFault;
     }
 
 -- the bytes that an instruction may have are bytes of memory
@@ -102,10 +103,10 @@ none-there : (f f′ l l′ r r′ h h′ : Bool) (i i′ : Instruction) → i .
 unfolding checked
 none-there f f′ l l′ r r′ h h′ i i′ e = cc
 
-few-there : (f r r′ h h′ : Bool) (i i′ : Instruction) → i .address ≡ i′ .address → checked false f true r h i ≡ checked false f true r′ h′ i′
+few-there : (f r r′ h h′ : Bool) (i i′ : Instruction) → i .address ≡ i′ .address → i .code ≡ i′ .code → checked false f true r h i ≡ checked false f true r′ h′ i′
 unfolding checked
-few-there true r r′ h h′ i i′ e = cc
-few-there false r r′ h h′ i i′ e = cc
+few-there true r r′ h h′ i i′ e k = cc
+few-there false r r′ h h′ i i′ e k = cc
 
 -- THE FETCH: its checks in order, on memory itself, and the instruction that is then there
 abbrev pub checkedAt : Memory → ℕ → (none few : Bool) → Instruction
@@ -132,7 +133,7 @@ module _ (m : Memory) (a : ℕ) where
 
     is-few : ltb (codeEnd m a) (a + row .size) ≡ true → fetch m a ≡ checkedAt m a false true
     unfolding fetch parsed ownBytes sizeAt aokAt
-    is-few e = rw (first, none-own m a (row .size) positive, lt-leb (codeEnd m a) a some, few-own m a (row .size) positive, e) (few-there _ _ _ _ _ _ _ refl)
+    is-few e = rw (first, none-own m a (row .size) positive, lt-leb (codeEnd m a) a some, few-own m a (row .size) positive, e) (few-there _ _ _ _ _ _ _ refl refl)
 
     is-whole : ltb (codeEnd m a) (a + row .size) ≡ false → fetch m a ≡ checkedAt m a false false
     unfolding fetch parsed ownBytes sizeAt aokAt constantIn parts hasRegisterByte
@@ -141,7 +142,7 @@ module _ (m : Memory) (a : ℕ) where
         let long : a + n ≤ codeEnd m a = ltb-false (codeEnd m a) (a + n) e in
         let rule : n ≡ parts row = length-rule (M₁ m a / 16) in
         let second : T (hasRegisterByte (row .byte)) → getD (take n (drop a (take (codeEnd m a) (m .bytes)))) 1 0 ≡ M₁ m (a + 1) =
-            λ t. own m a n 1 (rw rule (two row t)) (omega (arith, two row t)) in
+        λ t. own m a n 1 (rw rule (two row t)) (omega (arith, two row t)) in
         rw first
         (cc (
           none-own m a n positive,
@@ -188,22 +189,22 @@ aok-code m a e =
     let known : code < unknownCode = lt-of-not-le (λ h. omega (arith, leb-false (rowOf code .functions) (M₁ m a % 16) (passed .1), no-functions code h)) in
     (omega arith, known)
 
--- a bad status is that of a nop that goes nowhere
+-- a bad status is that of a nop that goes nowhere, with the reason of its fetch
 checked-bad : (f n l r h : Bool) (i : Instruction) (bad : Status) → i .status ≡ aok → isBad bad ≡ true → checked f n l r h i .status ≡ bad
-    → checked f n l r h i ≡ stopping (i .address) bad
+    → checked f n l r h i ≡ stopping (i .address) bad (checked f n l r h i .fault)
 unfolding checked stopping isBad
-checked-bad true n l r h i bad a b e = ap (stopping (i .address)) e
-checked-bad false true l r h i bad a b e = ap (stopping (i .address)) e
-checked-bad false false true r h i bad a b e = ap (stopping (i .address)) e
-checked-bad false false false true h i bad a b e = ap (stopping (i .address)) e
-checked-bad false false false false true i bad a b e = ap (stopping (i .address)) e
+checked-bad true n l r h i bad a b e = cc e
+checked-bad false true l r h i bad a b e = cc e
+checked-bad false false true r h i bad a b e = cc e
+checked-bad false false false true h i bad a b e = cc e
+checked-bad false false false false true i bad a b e = cc e
 checked-bad false false false false false i bad a b e = cc (ap isBad (sym a ∙ e))
 
-pub fetch-bad : (m : Memory) (a : ℕ) (bad : Status) → isBad bad ≡ true → fetch m a .status ≡ bad → fetch m a ≡ stopping a bad
+pub fetch-bad : (m : Memory) (a : ℕ) (bad : Status) → isBad bad ≡ true → fetch m a .status ≡ bad → fetch m a ≡ stopping a bad (fetch m a .fault)
 unfolding fetch parsed
 fetch-bad m a bad b e = checked-bad _ _ _ _ _ _ bad refl b e
 
 -- "Only then is 0x00 HLT."
-pub fetch-halt : (m : Memory) (a : ℕ) → a < codeEnd m a → M₁ m a ≡ 0 → fetch m a .status ≡ hlt
+pub fetch-halt : (m : Memory) (a : ℕ) → a < codeEnd m a → M₁ m a ≡ 0 → fetch m a ≡ stopping a hlt noFault
 unfolding checked stopping misnamed namesA namesB rowOf table aokAt
-fetch-halt m a h e = ap (λ i. i .status) (fetch-is m a) ∙ rw (e, lt-leb (codeEnd m a) a h, le-ltb (codeEnd m a) (a + 1) (omega arith)) refl
+fetch-halt m a h e = fetch-is m a ∙ rw (e, lt-leb (codeEnd m a) a h, le-ltb (codeEnd m a) (a + 1) (omega arith)) refl

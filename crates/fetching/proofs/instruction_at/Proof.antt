@@ -30,6 +30,9 @@ cast-whole c = search needs
 sub-whole : tie.Need-sub-whole
 sub-whole c = search needs
 
+not-in-table-requires : tie.Need-not-in-table-requires
+not-in-table-requires c κs = search needs
+
 stopping-requires-2 : tie.Need-stopping-requires-2
 stopping-requires-2 c κs = search needs
 
@@ -112,6 +115,7 @@ instruction-at-spec =
     size-of-requires
     cast-whole
     sub-whole
+    not-in-table-requires
     stopping-requires-2
     returns-2
     stopping-requires-3
