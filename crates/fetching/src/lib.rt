@@ -120,8 +120,9 @@ pub fn instruction_at(memory: &[u8], address: u64) -> Instruction
     let known = function < functions;
     let size = size_of(code);
     let whole = size as u64 <= n - address;
+    let unknown = not_in_table(functions);
     if !known {
-        return stopping(address, Status::Ins, not_in_table(functions));
+        return stopping(address, Status::Ins, unknown);
     }
     if !whole {
         return stopping(address, Status::Adr, Fault::LaterMissing);
