@@ -31,7 +31,7 @@ case = caseAt asIn01
 
 -- late store data, by the rule of that number
 abbrev late : ℕ → Settings
-late n = record { rule = n; late = true }
+late n = record { rule = n; late = true; window = noWindow }
 
 unfoldable pub cases : List Case
 cases =

@@ -10,6 +10,7 @@ use crate::reaching::crosses;
 use crate::reaching::size_at;
 use crate::reaching::whole;
 use fetching::instruction_at;
+use machine::Window;
 ghost use Prim.Native.Nat.{_≤_};
 ghost use lib.ListN.{length};
 ghost use mathlib.Core.Bool.{cond};
@@ -33,7 +34,7 @@ pub fn put_listing(buffer: &mut [u8], memory: &[u8], start: u64, end: u64) -> us
     let mut at = start;
     let mut cut = false;
     while at < end {
-        let i = instruction_at(memory, at);
+        let i = instruction_at(Window::NoWindow, memory, at);
         let status = i.status;
         let size = size_at(memory, at);
         let one = whole(memory, status, size, at, end, cut);

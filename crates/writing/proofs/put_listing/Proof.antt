@@ -1,6 +1,8 @@
 use Prim.Native.Nat.{_+_, _*_, _-_, _≤_}
+use mathlib.Core.Path.{ap}
 use native.Mathlib.Omega.{arith}
 use borrow.Author.Needs.{needs}
+use Rattle.machine.specs.declared.Instruction.{Instruction}
 use Rattle.machine.specs.Memory.{lent}
 use Rattle.text.specs.Put.{put-length}
 use Rattle.writing.proofs.Loop.{SoFar, begins, count-bounds, turn, ends}
@@ -50,7 +52,9 @@ put-line-requires c κs =
 
 -- src/lib.rt:42:9
 crosses-requires : tie.Need-crosses-requires Inv-loop μ-loop
-crosses-requires c κs = (cc, search needs, omega arith)
+crosses-requires c κs =
+    let fetched : tie.After-instruction-at Inv-loop μ-loop = search in
+    (ap (λ (i : Instruction). i .status) (fetched .instruction-at .ensures), search needs, omega arith)
 
 -- src/lib.rt:43:9
 add-at : tie.Need-add-at Inv-loop μ-loop
