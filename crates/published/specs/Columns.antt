@@ -81,6 +81,7 @@ stopped s bad f =
             last = PC s;
             count = s .machine .count + 1;
             blame = f;
+            window = s .machine .window;
           };
       memory = s .memory;
       log = s .log ++ PC s ∷ [];
