@@ -114,5 +114,9 @@ pub fn next_targets(emptied: bool, executed: Targets) -> Targets
 pub fn next_codes(emptied: bool, e: StageE, codes: Codes) -> Codes
     ensures { λ r. ⌜ r ≡ cond emptied codes (codesAfter e codes) ⌝ }
 {
-    if emptied { codes } else { codes_after(e, codes) }
+    if emptied {
+        codes
+    } else {
+        codes_after(e, codes)
+    }
 }

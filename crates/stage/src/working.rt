@@ -67,7 +67,7 @@ pub fn after_e(settings: Settings, w: StageW, e: StageE, codes: Codes) -> StageM
 
 // M's instruction after its access, and the clock's write: nothing else reads memory from here on.
 pub fn after_m(window: Window, m: StageM, memory: &mut [u8]) -> StageW
-    ensures { λ r. ⌜ (r ≡ afterM m (through window (lent (now (memory .entry))))) 
+    ensures { λ r. ⌜ (r ≡ afterM m (through window (lent (now (memory .entry)))))
         × (through window (lent (now (memory .exit))) ≡ memoryAfter m (through window (lent (now (memory .entry))))) ⌝ }
 {
     match m {
