@@ -1,11 +1,12 @@
 // What the exported functions share: words in lent blocks, and codes and status by their numbers.
 use machine::Codes;
+use machine::Fault;
 use machine::REGISTERS;
 use machine::Status;
 ghost use mathlib.Core.Path.{_≡_};
 ghost use Prim.Native.Nat.{_*_, _≤_};
 ghost use lib.ListN.{length};
-ghost use Rattle.machine.specs.Types.{statusNumber};
+ghost use Rattle.machine.specs.Types.{faultNumber, statusNumber};
 ghost use Rattle.block.specs.Block.{wordsIn, withWords, codesFrom};
 
 // The fifteen words of a register block.
@@ -41,6 +42,19 @@ pub fn codes_from(number: u64) -> Codes
         zf: number / 4 == 1,
         sf: number / 2 % 2 == 1,
         of: number % 2 == 1,
+    }
+}
+
+pub fn fault_number(fault: Fault) -> u64
+    ensures { λ r. ⌜ r ≡ faultNumber fault ⌝ }
+{
+    match fault {
+        Fault::NoFault => 0,
+        Fault::FirstMissing => 1,
+        Fault::NoCode => 2,
+        Fault::NoFunction => 3,
+        Fault::LaterMissing => 4,
+        Fault::NoRegister => 5,
     }
 }
 

@@ -12,6 +12,9 @@ use machine::Window;
 // The most cycles that are not refused.
 pub const PIPE_LIMIT: u64 = 262145;
 
+// The prediction rules have the numbers 0 to 2 (#105).
+pub const LAST_RULE: u8 = 2;
+
 // In what one core may differ from another: the number of the rule by which it predicts conditional jumps, and whether a store's data may come late;
 // with them the code window.
 pub struct Settings {

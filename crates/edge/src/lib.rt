@@ -1,10 +1,16 @@
 // The host edge: exported functions on byte slices and numbers.
+mod replaying;
+
+use crate::replaying::replay;
+use replay_ends::settings::numbers_refused;
+use replay_ends::settings::settings_of;
 ghost use mathlib.Core.Path.{_≡_};
 ghost use Rattle.day_edge.specs.Days.{dayAt, dayAnswer};
 ghost use Rattle.listing_edge.specs.Listings.{listingEdge, listingRead};
 ghost use Rattle.encoding.specs.Encode.{fields};
 ghost use Rattle.writing_edge.specs.Writings.{written, encoded};
-ghost use Rattle.edge.specs.Edge.{edge, replayed};
+ghost use Rattle.edge.specs.Edge.{edge, replayed, replayedSet};
+ghost use Rattle.replay_ends.specs.Ends.{numbers};
 
 // One pipelined run without logs from a fresh start.
 #[no_mangle]
@@ -20,6 +26,8 @@ pub extern "C" fn y86_replay(
         ≡ replayed (now (memory .entry)) (now (registers .entry)) (now (result .entry)) start codes budget ⌝ }
 {
     let number = replay_ends::refusal(
+        replay_ends::RESULT_BYTES,
+        false,
         memory.len(),
         registers.len(),
         result.len(),
@@ -30,18 +38,46 @@ pub extern "C" fn y86_replay(
     if number != 0 {
         return number;
     }
-    let started = pipe::start(
-        pipe::as_in_01(),
-        memory.len(),
-        block::read_registers(registers),
-        block::codes_from(codes),
-        start,
-    );
-    let fresh = started.pipeline;
-    let answer = pipe::run_unlogged(fresh, memory, budget);
-    let end = answer.pipeline;
-    replay_ends::write_registers(registers, end);
+    let end = replay(pipe::as_in_01(), memory, registers, start, codes, budget);
     replay_ends::write_result(result, end);
+    0
+}
+
+// The same with settings by their numbers, and all eleven result words (#105, #106, #107, #113).
+#[no_mangle]
+pub extern "C" fn y86_replay_set(
+    memory: &mut [u8],
+    registers: &mut [u8],
+    result: &mut [u8],
+    start: u64,
+    codes: u64,
+    budget: u64,
+    rule: u64,
+    late: u64,
+    windowed: u64,
+    first: u64,
+    end: u64,
+) -> u64
+    ensures { λ r. ⌜ edge r (now (memory .exit)) (now (registers .exit)) (now (result .exit))
+        ≡ replayedSet (numbers rule late windowed first end) (now (memory .entry)) (now (registers .entry)) (now (result .entry)) start codes budget ⌝ }
+{
+    let chosen = numbers_refused(rule, late, windowed, first, end, memory.len());
+    let number = replay_ends::refusal(
+        replay_ends::FULL_BYTES,
+        chosen,
+        memory.len(),
+        registers.len(),
+        result.len(),
+        start,
+        codes,
+        budget,
+    );
+    if number != 0 {
+        return number;
+    }
+    let settings = settings_of(rule, late, windowed, first, end);
+    let last = replay(settings, memory, registers, start, codes, budget);
+    replay_ends::write_full(result, last);
     0
 }
 

@@ -4,6 +4,7 @@ use answers::size_refused;
 use answers::start_refused;
 use answers::window_refused;
 use clocked::Kept;
+use clocked::LAST_RULE;
 use clocked::PIPE_LIMIT;
 use clocked::Pipeline;
 use clocked::Settings;
@@ -99,9 +100,6 @@ fn counts_refused(pipeline: Pipeline) -> bool
             | ((cycles < kinds.mispredict)
                 | ((cycles < kinds.returned) | (cycles < kinds.patched))))
 }
-
-// The rules have the numbers 0 to 2 (#105).
-const LAST_RULE: u8 = 2;
 
 fn settings_refused(settings: Settings) -> bool
     ensures { λ r. ⌜ r ≡ settingsRefused settings ⌝ }

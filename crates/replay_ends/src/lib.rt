@@ -1,4 +1,7 @@
 // Both ends of a replay: what it is refused for, and what it leaves in the lent blocks.
+pub mod settings;
+
+use block::fault_number;
 use block::status_number;
 use block::write_words;
 use clocked::PIPE_LIMIT;
@@ -6,17 +9,21 @@ use clocked::Pipeline;
 ghost use mathlib.Core.Path.{_≡_};
 ghost use lib.ListN.{length};
 ghost use Rattle.block.specs.Block.{withWords};
-ghost use Rattle.replay_ends.specs.Ends.{edgeRefusal, resultWords};
+ghost use Rattle.replay_ends.specs.Ends.{replayRefusal, resultWords, fullWords};
 
-// The lent blocks: fifteen registers, and five result words; and the greatest number that codes have.
+// The lent blocks: fifteen registers, five result words, or all eleven; and the greatest number that codes have.
 const REGISTER_BYTES: usize = 120;
 
-const RESULT_BYTES: usize = 40;
+pub const RESULT_BYTES: usize = 40;
+
+pub const FULL_BYTES: usize = 88;
 
 const MOST_CODES: u64 = 7;
 
-// The lowest refusal that applies, or 0.
+// The lowest refusal that applies, or 0, where the result block has so many bytes, and chosen says that the settings are out of their range.
 pub fn refusal(
+    block: usize,
+    chosen: bool,
     memory: usize,
     registers: usize,
     result: usize,
@@ -24,7 +31,7 @@ pub fn refusal(
     codes: u64,
     budget: u64,
 ) -> u64
-    ensures { λ r. ⌜ r ≡ edgeRefusal memory registers result start codes budget ⌝ }
+    ensures { λ r. ⌜ r ≡ replayRefusal block chosen memory registers result start codes budget ⌝ }
 {
     if answers::size_refused(memory) {
         return 1;
@@ -35,10 +42,10 @@ pub fn refusal(
     if answers::budget_refused(PIPE_LIMIT, 0, budget) {
         return 3;
     }
-    if result != RESULT_BYTES {
+    if result != block {
         return 4;
     }
-    if MOST_CODES < codes {
+    if (MOST_CODES < codes) | chosen {
         return 5;
     }
     if answers::start_refused(memory, start) {
@@ -60,6 +67,32 @@ pub fn write_result(result: &mut [u8], end: Pipeline)
         answers::codes_number(codes),
         end.retired,
         end.cycles,
+    ];
+    write_words(result, &words);
+}
+
+// All eleven: with them the cycles by kind, and what a bad fetch is blamed on.
+pub fn write_full(result: &mut [u8], end: Pipeline)
+    requires { ⌜ length (now result) ≡ 88 ⌝ }
+    ensures { λ _. ⌜ now (result .exit) ≡ withWords (fullWords end) (now (result .entry)) 0 ⌝ }
+{
+    let status = end.status;
+    let codes = end.codes;
+    let kinds = end.kinds;
+    let blame = end.blame;
+    let fault = blame.fault;
+    let words = [
+        status_number(status),
+        end.last,
+        answers::codes_number(codes),
+        end.retired,
+        end.cycles,
+        kinds.loaduse,
+        kinds.mispredict,
+        kinds.returned,
+        kinds.patched,
+        fault_number(fault),
+        blame.address,
     ];
     write_words(result, &words);
 }

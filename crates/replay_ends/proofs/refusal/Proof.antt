@@ -1,5 +1,4 @@
 -- The tests in the order of their numbers: one law of `Ways` for each way out. The `let`s name the record of facts behind each test that failed.
-use native.Mathlib.Omega.{arith}
 use Rattle.replay_ends.proofs.Ways.{refused-1, refused-2, refused-3, refused-4, refused-5, refused-6, refused-0}
 use borrow.Author.Needs.{needs}
 use Rattle.replay_ends.proofs.refusal.Statement.{statement}
@@ -36,8 +35,8 @@ returns-6 c =
     let third = fourth .before in
     let second = third .before .before in
     let first = second .before in
-    refused-6 _ _ _ _ _ _ _ (first .before .size-refused .ensures) (first .if1 .left) _ (second .if2 .left) (third .before .budget-refused .ensures)
-    (third .if3 .left) _ (c .before .start-refused .ensures) (fourth .if4 .left) (omega arith) (c .if6 .taken)
+    refused-6 _ _ _ _ _ _ _ _ _ (first .before .size-refused .ensures) (first .if1 .left) _ (second .if2 .left) (third .before .budget-refused .ensures)
+    (third .if3 .left) _ (c .before .start-refused .ensures) (fourth .if4 .left) (fifth .if5 .left) (c .if6 .taken)
 
 returns-7 : tie.Need-returns-7
 returns-7 c =
@@ -46,8 +45,8 @@ returns-7 c =
     let third = fourth .before in
     let second = third .before .before in
     let first = second .before in
-    refused-0 _ _ _ _ _ _ _ (first .before .size-refused .ensures) (first .if1 .left) _ (second .if2 .left) (third .before .budget-refused .ensures)
-    (third .if3 .left) _ (c .before .start-refused .ensures) (fourth .if4 .left) (omega arith) (c .if6 .left)
+    refused-0 _ _ _ _ _ _ _ _ _ (first .before .size-refused .ensures) (first .if1 .left) _ (second .if2 .left) (third .before .budget-refused .ensures)
+    (third .if3 .left) _ (c .before .start-refused .ensures) (fourth .if4 .left) (fifth .if5 .left) (c .if6 .left)
 
 pub refusal-spec : {M : Type 1} → statement M
 refusal-spec =
