@@ -11,7 +11,6 @@ use machine::Blame;
 use machine::Fault;
 use machine::REGISTERS;
 use machine::Status;
-use machine::Window;
 use retiring::Tally;
 use retiring::counted;
 use retiring::retires;
@@ -107,9 +106,10 @@ fn put_together(
 }
 
 // What the instruction in W is blamed on, if it stops the machine.
-fn blame_in(window: Window, w: StageW, memory: &[u8]) -> Blame
-    ensures { λ r. ⌜ r ≡ blameIn w (through window (lent (now (memory .entry)))) ⌝ }
+fn blame_in(settings: Settings, w: StageW, memory: &[u8]) -> Blame
+    ensures { λ r. ⌜ r ≡ blameIn w (through (settings .window) (lent (now (memory .entry)))) ⌝ }
 {
+    let window = settings.window;
     match w {
         StageW::BubbleW => Blame {
             fault: Fault::NoFault,
@@ -144,7 +144,6 @@ pub fn looped(
         ≡ pipeDone (clocks (coreOf (pipeline .settings)) (pipedOf pipeline (lent (now (memory .entry)))) budget) (now (addresses .entry)) (now (cycles .entry)) ⌝ }
 {
     let settings = pipeline.settings;
-    let window = settings.window;
     let first = pipeline.retired;
     let mut registers = pipeline.registers;
     let mut flow = flow_of(pipeline);
@@ -165,7 +164,7 @@ pub fn looped(
         note(retired, place, tally.cycles, cycles);
         done += 1;
         if bad_in_w(w) {
-            blame = blame_in(window, w, memory);
+            blame = blame_in(settings, w, memory);
             break; // everything else stays as it stood
         }
         flow = advance(settings, flow, &mut registers, memory);
