@@ -1,6 +1,10 @@
--- A refusal by `refuses`; else what was let in is run from a fresh start and written back, by `replays`. A `let` names the record of facts behind a call
--- by its type, for which `search` finds the place.
+-- A refusal by `refuses`; else what was let in is run and written back, by `replays`. A `let` names the record of facts behind a call by its type, for
+-- which `search` finds the place.
+use mathlib.Core.Bool.{false}
+use Rattle.clocked.specs.Prediction.{asIn01}
 use Rattle.replay_ends.specs.Allowed.{allowed}
+use Rattle.replay_ends.specs.Ends.{resultWords}
+use Rattle.edge.specs.Edge.{replayed}
 use Rattle.edge.proofs.Ways.{refuses, replays}
 use borrow.Author.Needs.{needs}
 use Rattle.edge.proofs.y86_replay.Statement.{statement}
@@ -10,38 +14,23 @@ refusal-requires : tie.Need-refusal-requires
 refusal-requires c κs = search needs
 
 returns : tie.Need-returns
-returns c = refuses _ _ _ _ _ _ _ (c .before .refusal .ensures) (c .if1 .taken)
+unfolding replayed
+returns c = refuses _ resultWords _ asIn01 _ _ _ _ _ _ _ (c .before .refusal .ensures) (c .if1 .taken)
 
 as-in-01-requires : tie.Need-as-in-01-requires
 as-in-01-requires c κs = search needs
 
-read-registers-requires : tie.Need-read-registers-requires
-read-registers-requires c κs =
+replay-requires : tie.Need-replay-requires
+replay-requires c κs =
     let tested : tie.After-refusal = search in
     let allows : tie.Else1 = search in
-    allowed _ _ _ _ _ _ _ (tested .refusal .ensures) (allows .if1 .left) .whole
-
-codes-from-requires : tie.Need-codes-from-requires
-codes-from-requires c κs = search needs
-
-start-requires : tie.Need-start-requires
-start-requires c κs = search needs
-
-run-unlogged-requires : tie.Need-run-unlogged-requires
-run-unlogged-requires c κs = search needs
-
-write-registers-requires : tie.Need-write-registers-requires
-write-registers-requires c κs =
-    let allows : tie.Else1 = search in
-    let tested : tie.After-refusal = search in
-    allowed _ _ _ _ _ _ _ (tested .refusal .ensures) (allows .if1 .left) .whole
+    allowed _ _ _ _ _ _ _ _ _ (tested .refusal .ensures) (allows .if1 .left) .whole
 
 write-result-requires : tie.Need-write-result-requires
 write-result-requires c κs =
-    let written : tie.After-write-registers = search in
     let allows : tie.Else1 = search in
     let tested : tie.After-refusal = search in
-    allowed _ _ _ _ _ _ _ (tested .refusal .ensures) (allows .if1 .left) .room
+    allowed _ _ _ _ _ _ _ _ _ (tested .refusal .ensures) (allows .if1 .left) .room
 
 same-length : tie.Need-same-length
 same-length c = search needs
@@ -53,19 +42,14 @@ same-length-3 : tie.Need-same-length-3
 same-length-3 c = search needs
 
 returns-2 : tie.Need-returns-2
+unfolding replayed
 returns-2 c =
     let answered : tie.After-write-result = search in
-    let written : tie.After-write-registers = search in
-    let run : tie.After-run-unlogged = search in
-    let fresh : tie.After-start = search in
-    let codes : tie.After-codes-from = search in
-    let read : tie.After-read-registers = search in
+    let run : tie.After-replay = search in
     let settings : tie.After-as-in-01 = search in
     let allows : tie.Else1 = search in
     let tested : tie.After-refusal = search in
-    replays _ _ _ _ _ _ _ (tested .refusal .ensures) _ _ _ _ _ _ _ _ _ _ (allows .if1 .left) (read .read-registers .ensures)
-    (codes .codes-from .ensures) (settings .as-in-01 .ensures) (fresh .start .ensures) (run .run-unlogged .ensures) (written .write-registers .ensures)
-    (answered .write-result .ensures)
+    replays _ resultWords _ _ _ _ _ _ _ _ _ (tested .refusal .ensures) _ _ _ _ (allows .if1 .left) (run .replay .ensures) (answered .write-result .ensures)
 
 pub y86-replay-spec : {M : Type 1} → statement M
 y86-replay-spec =
@@ -74,11 +58,7 @@ y86-replay-spec =
     refusal-requires
     returns
     as-in-01-requires
-    read-registers-requires
-    codes-from-requires
-    start-requires
-    run-unlogged-requires
-    write-registers-requires
+    replay-requires
     write-result-requires
     same-length
     same-length-2
