@@ -9,7 +9,7 @@ use lib.Dec.{eqb, ltb}
 use borrow.Author.Tests.{ne-eqb, lt-ltb, le-ltb, ltb-false}
 use Rattle.clocked.specs.Charges.{noKinds}
 use Rattle.clocked.specs.Pipeline.{pipeStart}
-use Rattle.machine.specs.Runs.{sizeRefused, budgetRefused, logRefused}
+use Rattle.machine.specs.Runs.{sizeRefused, budgetRefused, logRefused, windowRefused}
 use Rattle.clocked.specs.PipeRuns.{settingsRefused, recordRefused, countsRefused, refusedInD, refusedInE, refusedInM}
 use Rattle.machine.specs.Runs.{lowest}
 use Rattle.clocked.specs.PipeRuns.{refusedInW, refusedKept, pipeRefusal, pipeDone, pipeBy, pipeRunUnlogged}
@@ -29,7 +29,7 @@ taken image h =
 
 -- an image is refused only for its size
 pub refused-by-size : (image : List ℕ) → imageRun image .number ≡ cond (imageRefused (length image)) 1 0
-unfolding imageRun imageStart pipeRunUnlogged pipeBy pipeDone pipeRefusal lowest budgetRefused logRefused recordRefused settingsRefused countsRefused
+unfolding imageRun imageStart pipeRunUnlogged pipeBy pipeDone pipeRefusal lowest budgetRefused logRefused windowRefused recordRefused settingsRefused countsRefused
     refusedInD refusedInE refusedInM refusedInW refusedKept pipeStart noKinds
 refused-by-size image = go (imageRefused (length image)) refl
   where

@@ -86,15 +86,15 @@ module _ (t : Start) (b : Bytes (t .memory .bytes)) (n : ℕ) (r : pipeUnlogged 
   unfolding pipeRunUnlogged pipeBy pipeDone
   answers k m i e = rw e
 
-  -- where i clocks end of which none is refused
+  -- where i clocks end of which none is refused: the record, and the size of memory
   there : (i : ℕ) → i ≤ n → NoneRefused (pipedFrom t .pipeline) (t .memory) i
       → let o = clockByClock (pipedFrom t .pipeline) (t .memory) i in
-      let p = clocks (chosen t) (pipedFrom t) i in _≡_ {A = Pipeline × Memory} (o .pipeline, o .memory) (p .pipeline, p .memory)
+      let p = clocks (chosen t) (pipedFrom t) i in _≡_ {A = Pipeline × ℕ} (o .pipeline, size (o .memory)) (p .pipeline, size (p .memory))
   unfolding clockByClock clocks pipedFrom pipeStart pipeDone
   there zero h f = refl
   there (suc i) h f =
       let s = answers (pipedFrom t .pipeline) (t .memory) (suc i) (shorter (chosen t) t b known n refusal i h) in
-      ap (λ (o : PipeAnswer). (o .pipeline, o .memory))
+      ap (λ (o : PipeAnswer). (o .pipeline, size (o .memory)))
       (clocks-are-a-run (pipedFrom t .pipeline) (t .memory) (suc i) f s ∙ unlogged-ran (pipedFrom t .pipeline) (t .memory) (suc i) s .0)
 
   up : (i : ℕ) → i ≤ n → NoneRefused (pipedFrom t .pipeline) (t .memory) i
@@ -102,10 +102,10 @@ module _ (t : Start) (b : Bytes (t .memory .bytes)) (n : ℕ) (r : pipeUnlogged 
   up zero h = λ j q. absurd (omega arith)
   up (suc i) h =
       let f = up i (omega arith) in
-      let p = clocks (chosen t) (pipedFrom t) i in
-      let next = answers (p .pipeline) (p .memory) 1 (each-clock (chosen t) t b known n refusal i h) in
+      let o = clockByClock (pipedFrom t .pipeline) (t .memory) i in
+      let next = subst (λ (x : Pipeline × ℕ). pipeRefusal (x .0) (x .1) 1 [] ≡ 0) (sym (there i (omega arith) f)) (each-clock (chosen t) t b known n refusal i h) in
       up-to {P = λ (j : ℕ). clockByClock (pipedFrom t .pipeline) (t .memory) (suc j) .number ≡ 0} i f
-      (subst (λ (x : Pipeline × Memory). pipeRunUnlogged (x .0) (x .1) 1 .number ≡ 0) (sym (there i (omega arith) f)) next)
+      (answers (o .pipeline) (o .memory) 1 next)
 
   pub none-refused : NoneRefused (pipedFrom t .pipeline) (t .memory) n
   none-refused = up n (omega arith)
