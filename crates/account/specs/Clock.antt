@@ -21,7 +21,8 @@ use Rattle.account.specs.Laws
 use Rattle.account.specs.Laws.{bit, wrongAt, patchesAt}
 use Rattle.account.specs.Signals
 use Rattle.account.specs.Signals.{waitsFor, loadsInto}
-use Rattle.account.specs.Relation.{Unpatched, Known, Beyond, Guessed, AtF, BehindD, AtD, BehindE, AtE, BehindM, AtM, AtW, beyondF, stopF}
+use Rattle.account.specs.Seen.{wait}
+use Rattle.account.specs.Relation.{Sees, Known, Beyond, Guessed, AtF, BehindD, AtD, BehindE, AtE, BehindM, AtM, AtW, beyondF, stopF}
 use Rattle.account.specs.Relation.{readyF, goesD, wrongD, retD, patchD, beyondD, stopD, emptyD, fullD, goesE, wrongE, retE, patchE, beyondE}
 use Rattle.account.specs.Relation.{stopE, emptyE, fullE, goesM, retM, patchM, beyondM, stopM, emptyM, fullM, beyondW, emptyW, fullW}
 
@@ -38,20 +39,27 @@ fate g s K n = go (decLt n K) (isStopped (steps s n)) refl
     go (yes h) false e = known (record { runs = e; below = h })
     go (no h) false e = beyond (record { runs = e; above = omega arith })
 
-unpatched-none : (s : Plain) (n : ℕ) → Unpatched s n n
-unpatched-none s n i a b = absurd (omega arith)
-
-unpatched-more : (s : Plain) (j n : ℕ) → Unpatched s j n → patchesAt (steps s n) ≡ false → Unpatched s j (suc n)
-unpatched-more s j n f h i a b = go (decLt i n)
-  where
-    go : Dec (i < n) → patchesAt (steps s i) ≡ false
-    go (yes q) = f i a q
-    go (no q) =
-        let e : i ≡ n = omega arith in
-        rw e h
-
 module _ (g : Core) (s : Plain) (K : ℕ) (p : Piped) (c : ℕ)
-    (sight : (j n : ℕ) → j ≤ n → n ≤ j + 3 → Known g s K n → Unpatched s j n → fetch (steps s j .memory) (steps s n .machine .address) ≡ fetched (steps s n)) where
+    (sight : (j n : ℕ) → Sees g s (c + 1) j n → due g s (suc n) ≡ c + 5 + wait g s (suc n) → Known g s K n
+    → fetch (steps s j .memory) (steps s n .machine .address) ≡ fetched (steps s n)) where
+  -- one instruction further, which is not due yet
+  sees-on : (j n : ℕ) → Sees g s (c + 1) j n → c + 1 < due g s (suc n) → Sees g s (c + 1) j (suc n)
+  sees-on j n v h = record { lo = omega (arith, v .lo); older = v .older; later = λ _. go (decLt j n) }
+    where
+      go : Dec (j < n) → c + 1 < due g s (suc j)
+      go (yes q) = v .later q
+      go (no q) =
+          let e : j ≡ n = omega (arith, v .lo) in
+          rw e h
+
+  -- behind an empty D nothing waits
+  no-wait : (n : ℕ) → advanced g p .pipeline .d ≡ bubbleD → bit (waitsFor g (advanced g p .pipeline .d) (fetched (steps s n))) ≡ 0
+  unfolding bit waitsFor
+  no-wait n h = ap (λ (d : StageD). bit (waitsFor g d (fetched (steps s n)))) h
+
+  sees-all : (n : ℕ) → ((i : ℕ) → i < n → due g s (suc i) ≤ c + 1) → Sees g s (c + 1) n n
+  sees-all n h = record { lo = omega arith; older = h; later = λ q. absurd (omega arith) }
+
   -- F: what is known of the older stages when an instruction is fetched
   record Fetching (n : ℕ) : Type 0 where
     whole : cancels p ≡ false
@@ -61,14 +69,14 @@ module _ (g : Core) (s : Plain) (K : ℕ) (p : Piped) (c : ℕ)
     staysM : retInM (p .pipeline .m) ≡ false
     j : ℕ
     memory : p .memory ≡ steps s j .memory
-    lo : j ≤ n
-    hi : n ≤ j + 3
-    unpatched : Unpatched s j n
+    sees : Sees g s (c + 1) j n
 
-  module _ (n : ℕ) (v : Fetching n) (l : Known g s K n) (a : fetchAddress g p ≡ steps s n .machine .address) where
+  module _ (n : ℕ) (v : Fetching n) (l : Known g s K n) (a : fetchAddress g p ≡ steps s n .machine .address)
+      (y : bit (waitsFor g (p .pipeline .d) (fetched (steps s n))) ≡ wait g s (suc n))
+      (t : due g s (suc n) ≡ c + 5 + bit (waits g p) + bit (waitsFor g (p .pipeline .d) (fetched (steps s n)))) where
     got : fetchedNow g p ≡ fetched (steps s n)
-    unfolding fetchedNow
-    got = cc (sight (v .j) n (v .lo) (v .hi) l (v .unpatched))
+    unfolding fetchedNow bit
+    got = cc (sight (v .j) n (v .sees) (omega (arith, ap bit (v .free))) l)
 
     got-D : advanced g p .pipeline .d ≡ inD (fetched (steps s n))
     got-D = Signals.d-next g p (fetched (steps s n)) (v .whole) (v .free) (v .right) (v .stays) got
@@ -76,49 +84,52 @@ module _ (g : Core) (s : Plain) (K : ℕ) (p : Piped) (c : ℕ)
     got-waits : waits g (advanced g p) ≡ waitsFor g (p .pipeline .d) (fetched (steps s n))
     got-waits = Signals.waits-next g p (fetched (steps s n)) (v .whole) (v .free) (v .right) got-D
 
-    module _ (t : due g s (suc n) ≡ c + 5 + bit (waits g p) + bit (waitsFor g (p .pipeline .d) (fetched (steps s n)))) where
-      got-due : due g s (suc n) ≡ suc c + 4 + bit (waits g (advanced g p))
-      unfolding bit
-      got-due = omega (arith, ap bit (v .free), ap bit got-waits)
+    got-due : due g s (suc n) ≡ suc c + 4 + bit (waits g (advanced g p))
+    unfolding bit
+    got-due = omega (arith, ap bit (v .free), ap bit got-waits)
 
-      module _ (q : Guessed g s K n) where
-        next-due : due g s (suc (suc n)) ≡ suc c + 5 + bit (waits g (advanced g p)) + bit (waitsFor g (advanced g p .pipeline .d) (fetched (steps s (suc n))))
-        unfolding waitsFor
-        next-due =
-            omega (
-              arith,
-              got-due,
-              Laws.due-next g s n,
-              Laws.charge-straight g s n (q .right) (q .stays) (q .keeps),
-              ap (λ (d : StageD). bit (waitsFor g d (fetched (steps s (suc n))))) got-D,
-            )
+    module _ (q : Guessed g s K n) where
+      next-due : due g s (suc (suc n)) ≡ suc c + 5 + bit (waits g (advanced g p)) + bit (waitsFor g (advanced g p .pipeline .d) (fetched (steps s (suc n))))
+      unfolding waitsFor
+      next-due =
+          omega (
+            arith,
+            got-due,
+            Laws.due-next g s n,
+            Laws.charge-straight g s n (q .right) (q .stays) (q .keeps),
+            ap (λ (d : StageD). bit (waitsFor g d (fetched (steps s (suc n))))) got-D,
+          )
 
-        predicted-next : Known g s K (suc n) → advanced g p .pipeline .predicted ≡ steps s (suc n) .machine .address
-        unfolding steps
-        predicted-next k =
-            Signals.f-next g p (fetched (steps s n)) (v .whole) (v .free) (v .stays) got
-            ∙ sym (Laws.address-predicted (steps s n) (l .runs) (k .runs) g (q .right) (q .stays))
+      predicted-next : Known g s K (suc n) → advanced g p .pipeline .predicted ≡ steps s (suc n) .machine .address
+      unfolding steps
+      predicted-next k =
+          Signals.f-next g p (fetched (steps s n)) (v .whole) (v .free) (v .stays) got
+          ∙ sym (Laws.address-predicted (steps s n) (l .runs) (k .runs) g (q .right) (q .stays))
 
-        next-F : AtF g s K (advanced g p) (suc c) (suc n)
-        next-F = go (fate g s K (suc n))
-          where
-            go : Fate g s K (suc n) → AtF g s K (advanced g p) (suc c) (suc n)
-            go (beyond h) = beyondF h
-            go (stop h) = stopF h
-            go (known k) = readyF k (Signals.at-next g p (v .right) (v .staysM) ∙ predicted-next k) (inr (predicted-next k)) next-due
+      next-wait : bit (waitsFor g (advanced g p .pipeline .d) (fetched (steps s (suc n)))) ≡ wait g s (suc (suc n))
+      unfolding waitsFor
+      next-wait = ap (λ (d : StageD). bit (waitsFor g d (fetched (steps s (suc n))))) got-D ∙ sym (Laws.wait-behind g s n (q .keeps))
 
-      behind-D : (x y z : Bool) → wrongAt g (steps s n) ≡ x → is ret (fetched (steps s n)) ≡ y → patchesAt (steps s n) ≡ z → BehindD g s K (advanced g p) (suc c) n
-      behind-D true y z e h k = wrongD e
-      behind-D false true z e h k = retD h
-      behind-D false false true e h k = patchD k
-      behind-D false false false e h k =
-          let q : Guessed g s K n = record { right = e; stays = h; keeps = k } in
-          goesD q (next-F q)
+      next-F : AtF g s K (advanced g p) (suc c) (suc n)
+      next-F = go (fate g s K (suc n))
+        where
+          go : Fate g s K (suc n) → AtF g s K (advanced g p) (suc c) (suc n)
+          go (beyond h) = beyondF h
+          go (stop h) = stopF h
+          go (known k) = readyF k (Signals.at-next g p (v .right) (v .staysM) ∙ predicted-next k) (inr (predicted-next k)) next-wait next-due
+
+    behind-D : (x y z : Bool) → wrongAt g (steps s n) ≡ x → is ret (fetched (steps s n)) ≡ y → patchesAt (steps s n) ≡ z → BehindD g s K (advanced g p) (suc c) n
+    behind-D true y z e h k = wrongD e
+    behind-D false true z e h k = retD h
+    behind-D false false true e h k = patchD k
+    behind-D false false false e h k =
+        let q : Guessed g s K n = record { right = e; stays = h; keeps = k } in
+        goesD q (next-F q)
 
   into-D : (n : ℕ) → Fetching n → AtF g s K p c n → AtD g s K (advanced g p) (suc c) n
   into-D n v (beyondF h) = beyondD h
   into-D n v (stopF h) = stopD h
-  into-D n v (readyF l a hold t) = fullD l (got-D n v l a) (got-due n v l a t) (behind-D n v l a t _ _ _ refl refl refl)
+  into-D n v (readyF l a hold y t) = fullD l (got-D n v l a y t) (got-due n v l a y t) (behind-D n v l a y t _ _ _ refl refl refl)
 
   -- D: what is known of W, M and E when an instruction may stand in D
   record Decoding (n : ℕ) : Type 0 where
@@ -128,9 +139,7 @@ module _ (g : Core) (s : Plain) (K : ℕ) (p : Piped) (c : ℕ)
     staysM : retInM (p .pipeline .m) ≡ false
     j : ℕ
     memory : p .memory ≡ steps s j .memory
-    lo : j ≤ n
-    hi : n ≤ j + 2
-    unpatched : Unpatched s j n
+    sees : Sees g s (c + 1) j n
     codes : advanced g p .pipeline .codes ≡ steps s n .machine .codes
     read : isStopped (steps s n) ≡ false → (q : ℕ) → loadsInto (p .pipeline .e) q ≡ false → source g p q ≡ value (steps s n .machine .registers) q
     -- of an instruction that does not wait, valA is read in D or handed over in E
@@ -142,9 +151,10 @@ module _ (g : Core) (s : Plain) (K : ℕ) (p : Piped) (c : ℕ)
   unfolding bit
   hold-F n z w m r (beyondF h) = beyondF h
   hold-F n z w m r (stopF h) = stopF h
-  hold-F n z w m r (readyF l a (inl h) t) = absurd (true≢false (sym w ∙ Signals.waits-bubbleD g p h))
-  hold-F n z w m r (readyF l a (inr h) t) =
+  hold-F n z w m r (readyF l a (inl h) y t) = absurd (true≢false (sym w ∙ Signals.waits-bubbleD g p h))
+  hold-F n z w m r (readyF l a (inr h) y t) =
       readyF l (Signals.at-next g p m r ∙ (Signals.f-held g p z w ∙ h)) (inr (Signals.f-held g p z w ∙ h))
+      (ap (λ (d : StageD). bit (waitsFor g d (fetched (steps s n)))) (Signals.d-held g p z m w) ∙ y)
       (omega (
         arith,
         t,
@@ -168,9 +178,7 @@ module _ (g : Core) (s : Plain) (K : ℕ) (p : Piped) (c : ℕ)
         staysM = v .staysM;
         j = v .j;
         memory = v .memory;
-        lo = v .lo;
-        hi = omega arith;
-        unpatched = v .unpatched;
+        sees = v .sees;
       }) f)
   into-E n v (fullD l h t a) = go (waits g p) refl
     where
@@ -205,9 +213,7 @@ module _ (g : Core) (s : Plain) (K : ℕ) (p : Piped) (c : ℕ)
                 staysM = v .staysM;
                 j = v .j;
                 memory = v .memory;
-                lo = omega arith;
-                hi = omega arith;
-                unpatched = unpatched-more s (v .j) n (v .unpatched) (q .keeps);
+                sees = sees-on (v .j) n (v .sees) (omega arith);
               }) f)
           moved (wrongD x) = wrongE x
           moved (patchD z) = patchE z
@@ -220,9 +226,7 @@ module _ (g : Core) (s : Plain) (K : ℕ) (p : Piped) (c : ℕ)
     failing : fails p ≡ isStopped (steps s n)
     j : ℕ
     memory : p .memory ≡ steps s j .memory
-    lo : j ≤ n
-    hi : n ≤ j + 1
-    unpatched : Unpatched s j n
+    sees : Sees g s (c + 1) j n
     memory′ : advanced g p .memory ≡ steps s n .memory
     read : isStopped (steps s n) ≡ false → (q : ℕ) → sourceM p q ≡ value (steps s n .machine .registers) q
 
@@ -266,6 +270,7 @@ module _ (g : Core) (s : Plain) (K : ℕ) (p : Piped) (c : ℕ)
               (readyF l′
               (Signals.at-mended g (advanced g p) (executed (steps s n)) (Signals.m-in g p (steps s n) h k (v .whole) unfailing) x
               ∙ sym (Laws.address-mended (steps s n) (l .runs) (l′ .runs) g x)) (inl d′)
+              (no-wait (suc n) d′ ∙ sym (Laws.wait-none g s n (omega (arith, Laws.charge-wrong g s n x .2))))
               (omega (
                 arith,
                 Laws.due-next g s n,
@@ -292,9 +297,7 @@ module _ (g : Core) (s : Plain) (K : ℕ) (p : Piped) (c : ℕ)
               staysM = v .staysM;
               j = v .j;
               memory = v .memory;
-              lo = v .lo;
-              hi = omega arith;
-              unpatched = v .unpatched;
+              sees = v .sees;
               codes = Signals.codes-bubble g p h ∙ k;
               read = λ r q _. Signals.source-bubble g p h q ∙ v .read r q;
               hand = λ r i _.
@@ -359,9 +362,7 @@ module _ (g : Core) (s : Plain) (K : ℕ) (p : Piped) (c : ℕ)
                   staysM = v .staysM;
                   j = v .j;
                   memory = v .memory;
-                  lo = omega arith;
-                  hi = omega arith;
-                  unpatched = unpatched-more s (v .j) n (v .unpatched) (q .keeps);
+                  sees = sees-on (v .j) n (v .sees) (omega arith);
                   codes = codes-next n v l k h t;
                   read = read′;
                   hand = hand′;
@@ -374,6 +375,7 @@ module _ (g : Core) (s : Plain) (K : ℕ) (p : Piped) (c : ℕ)
     -- M: what is known of W when an instruction may stand in M
     record Accessing (n : ℕ) : Type 0 where
       run : isStopped (steps s n) ≡ false
+      older : (i : ℕ) → i < n → due g s (suc i) ≤ c + 1
       registers′ : advanced g p .pipeline .registers ≡ steps s n .machine .registers
       read : (q : ℕ) → sourceW p q ≡ value (steps s n .machine .registers) q
 
@@ -417,6 +419,7 @@ module _ (g : Core) (s : Plain) (K : ℕ) (p : Piped) (c : ℕ)
               (Signals.at-returned g (advanced g p) (accessed (steps s n)) m′ (Signals.w-in g p (steps s n) h k)
               (ap (is ret) (Laws.in-accessed (steps s n)) ∙ y)
               ∙ sym (Laws.address-returned (steps s n) (l .runs) (l′ .runs) y)) (inl d′)
+              (no-wait (suc n) d′ ∙ sym (Laws.wait-none g s n (omega (arith, Laws.charge-returned g s n y))))
               (omega (
                 arith,
                 Laws.due-next g s n,
@@ -455,6 +458,7 @@ module _ (g : Core) (s : Plain) (K : ℕ) (p : Piped) (c : ℕ)
               (readyF l′
               (Signals.at-restarted g (advanced g p) (accessed (steps s n)) m′ (Signals.w-in g p (steps s n) h k) (ap (is ret) (Laws.in-accessed (steps s n)) ∙ Laws.charge-patched g s n y .0)
               ∙ (Signals.f-cancelled g p z (executed (steps s n)) h ∙ sym (Laws.address-patched (steps s n) (l .runs) (l′ .runs) y))) (inl d′)
+              (no-wait (suc n) d′ ∙ sym (Laws.wait-none g s n (omega (arith, Laws.charge-patched g s n y .1))))
               (omega (
                 arith,
                 Laws.due-next g s n,
@@ -475,9 +479,7 @@ module _ (g : Core) (s : Plain) (K : ℕ) (p : Piped) (c : ℕ)
           failing = Signals.fails-bubble g p h ∙ sym r;
           j = n;
           memory = k;
-          lo = omega arith;
-          hi = omega arith;
-          unpatched = unpatched-none s n;
+          sees = sees-all n (v .older);
           memory′ = Signals.memory-bubble g p h ∙ k;
           read = λ _ q. Signals.sourceM-bubble g p h q ∙ v .read q;
         }) e)
@@ -492,9 +494,7 @@ module _ (g : Core) (s : Plain) (K : ℕ) (p : Piped) (c : ℕ)
               failing = fails-next n l k h t;
               j = n;
               memory = k;
-              lo = omega arith;
-              hi = omega arith;
-              unpatched = unpatched-more s n n (unpatched-none s n) z;
+              sees = sees-on n n (sees-all n (v .older)) (omega arith);
               memory′ = memory-next n l k h t;
               read = λ r q. Signals.sourceM-in g p (steps s n) h k q ∙ read-on n l r q (sourceW p q) (v .read q);
             }) e
@@ -502,18 +502,19 @@ module _ (g : Core) (s : Plain) (K : ℕ) (p : Piped) (c : ℕ)
         moved (patchM y kc) = patch-M n l k h t y kc
 
     -- a clock with a bubble in W, and one in which an instruction retires and the machine runs on
-    pub clock-empty : (n : ℕ) → isStopped (steps s n) ≡ false → p .pipeline .registers ≡ steps s n .machine .registers → p .pipeline .w ≡ bubbleW
+    pub clock-empty : (n : ℕ) → ((i : ℕ) → i < n → due g s (suc i) ≤ c + 1) → isStopped (steps s n) ≡ false → p .pipeline .registers ≡ steps s n .machine .registers → p .pipeline .w ≡ bubbleW
         → AtM g s K p c n
         → AtW g s K (advanced g p) (suc c) n
-    clock-empty n r k h a = into-W n (record { run = r; registers′ = Signals.registers-bubble g p h ∙ k; read = λ q. cc (Signals.sourceW-bubble g p h q) }) a
+    clock-empty n o r k h a = into-W n (record { run = r; older = o; registers′ = Signals.registers-bubble g p h ∙ k; read = λ q. cc (Signals.sourceW-bubble g p h q) }) a
 
-    pub clock-full : (n : ℕ) → Known g s K n → isStopped (steps s (suc n)) ≡ false → p .pipeline .registers ≡ steps s n .machine .registers
+    pub clock-full : (n : ℕ) → ((i : ℕ) → i < suc n → due g s (suc i) ≤ c + 1) → Known g s K n → isStopped (steps s (suc n)) ≡ false → p .pipeline .registers ≡ steps s n .machine .registers
         → p .pipeline .w ≡ inW (accessed (steps s n)) → AtM g s K p c (suc n) → AtW g s K (advanced g p) (suc c) (suc n)
     unfolding steps
-    clock-full n l r k h a =
+    clock-full n o l r k h a =
         into-W (suc n)
         (record {
           run = r;
+          older = o;
           registers′ = Signals.registers-in g p (steps s n) h k ∙ sym (Laws.step-registers (steps s n) (l .runs) r);
           read = λ q. Signals.sourceW-in g p (accessed (steps s n)) q h ∙ read-on n l r q (value (p .pipeline .registers) q) (ap (λ r. value r q) k);
         }) a

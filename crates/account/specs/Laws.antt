@@ -1,6 +1,6 @@
 -- What the control proof uses of the instruction set and of the plain step. A new instruction, or another row of the table, has to keep these.
 -- What it uses of the register file alone, a write and what is read after it, is laws' Registers.
-use Prim.Native.Nat.{ℕ, zero, suc, _+_}
+use Prim.Native.Nat.{ℕ, zero, suc, _+_, _≤_}
 use mathlib.Core.Bool.{Bool, true, false, cond, not, _&&_, _||_, Bool·beq, true≢false}
 use mathlib.Core.List.{[], _∷_, _++_}
 use mathlib.Core.Path.{_≡_, refl, ap, sym, _∙_}
@@ -10,6 +10,7 @@ use lib.Dec.{T, eqb}
 use lib.ListN.{length}
 use Rattle.account.specs.Names.{Status, hlt, adr, ins, Fault, noFault, firstMissing, laterMissing, noRegister}
 use Rattle.account.specs.Names.{Codes, Instruction, Decoded, Executed, Retired, inM, inW}
+use Rattle.account.specs.Names.{Reason, free, waited, wronglyGuessed, returned, patched}
 use Rattle.machine.specs.Types.{isBad}
 use Rattle.machine.specs.Memory.{Memory, inside, store}
 use Rattle.machine.specs.Table.{Row, Sets, noCodes, byOp, bySum, rowOf, table, is, cmov, jump, ret, Which, none, rA, rB, rsp}
@@ -20,9 +21,11 @@ use Rattle.machine.specs.Plain.{Plain, isStopped, fetched, decoded, executed, a
 use Rattle.clocked.specs.Prediction.{Core, guess, predictedNext, mispredicted, meets, awaitedA, loadUse}
 use Rattle.clocked.specs.Charges.{reasonBehind, retiredOf, amount, reasonOf, charge, charges, due}
 use Rattle.clocked.specs.Pipeline.{pastResult, pastBoth}
+use Rattle.clocked.specs.Premise.{writesByte}
 use Rattle.published.specs.Lengths.{every-row}
 use Rattle.clock_laws.specs.Registers.{meets-none, length-written}
 use Rattle.laws.specs.Tests.{neither}
+use Rattle.account.specs.Seen.{waiting, wait}
 
 -- 1 or 0
 unfoldable pub bit : Bool → ℕ
@@ -218,6 +221,17 @@ pub stores-at : (s : Plain) → patchesAt s ≡ true → stores (fetched s) ≡ 
 unfolding patchesAt accessed access
 stores-at s h = sym (ap stores (in-executed s)) ∙ patches-stores (executed s) (s .memory) h
 
+-- what writes a byte is no jump, and so not guessed wrongly
+pub writes-right : (g : Core) (s : Plain) (x : ℕ) → writesByte s x ≡ true → wrongAt g s ≡ false
+unfolding writesByte wrongAt mispredicted
+writes-right g s x h = go (kind (fetched s))
+  where
+    go : Kind (fetched s) → wrongAt g s ≡ false
+    go (a-jump a b c d) = absurd (true≢false (cc))
+    go (a-return a b c d) = cc (in-executed s)
+    go (a-store a b c d) = cc (in-executed s)
+    go (another a b c) = cc (in-executed s)
+
 -- a store inside memory succeeds
 pub store-succeeds : (s : Plain) → stores (fetched s) ≡ true → inside (s .memory) (accessAddress (executed s)) ≡ true → isBad (accessed s .status) ≡ false
 unfolding accessed access accessStatus
@@ -408,6 +422,34 @@ module _ (g : Core) (k : Retired) where
         go true e = cc
         go false e = cc
 
+    -- but for a store into the window, one waits for the load of whatever it is behind
+    pub behind-wait : k .patched ≡ false → waiting (reasonBehind g k j) ≡ bit (loadUse g (k .instruction) j)
+    unfolding reasonBehind waiting bit
+    behind-wait z = rw z (go (loadUse g (k .instruction) j) (mispredicted g (k .instruction) (k .holds) && not (eqb (k .instruction .function) 0)) (is ret (k .instruction)))
+      where
+        go : (a b c : Bool) → waiting (cond a waited (cond b wronglyGuessed (cond c returned free))) ≡ bit a
+        go true b c = refl
+        go false true c = refl
+        go false false true = refl
+        go false false false = refl
+
+-- one that waits is charged for that alone
+pub waiting-less : (r : Reason) → waiting r ≤ amount r
+unfolding waiting amount
+waiting-less free = omega arith
+waiting-less waited = omega arith
+waiting-less wronglyGuessed = omega arith
+waiting-less returned = omega arith
+waiting-less patched = omega arith
+
+waiting-only : (r : Reason) → 2 ≤ amount r → waiting r ≡ 0
+unfolding waiting amount
+waiting-only free h = absurd (omega arith)
+waiting-only waited h = absurd (omega arith)
+waiting-only wronglyGuessed h = refl
+waiting-only returned h = refl
+waiting-only patched h = refl
+
 -- an unconditional jump is never guessed wrongly
 module _ (g : Core) (x : Decoded) (c : Codes) where
   always-holds : is jump (x .instruction) ≡ true → eqb (x .instruction .function) 0 ≡ true → execute x c .holds ≡ true
@@ -484,3 +526,13 @@ module _ (g : Core) (s : Plain) (n : ℕ) where
   charge-straight m t z =
       charged ∙ (behind-other g predecessor (fetched (steps s (suc n))) (patched-is ∙ z) (wrong-is ∙ m) (ret-is ∙ t)
       ∙ ap (λ (i : Instruction). bit (loadUse g i (fetched (steps s (suc n))))) (in-accessed (steps s n)))
+
+  pub wait-behind : patchesAt (steps s n) ≡ false → wait g s (suc (suc n)) ≡ bit (loadUse g (fetched (steps s n)) (fetched (steps s (suc n))))
+  unfolding wait reasonOf predecessor retiredOf
+  wait-behind z =
+      behind-wait g predecessor (fetched (steps s (suc n))) (patched-is ∙ z)
+      ∙ ap (λ (i : Instruction). bit (loadUse g i (fetched (steps s (suc n))))) (in-accessed (steps s n))
+
+  pub wait-none : 2 ≤ charge g s (suc (suc n)) → wait g s (suc (suc n)) ≡ 0
+  unfolding wait charge
+  wait-none h = waiting-only (reasonOf g s (suc (suc n))) h

@@ -1,14 +1,16 @@
--- Demand 3. To be read: Statement. The proof: Laws of the instruction set, Signals of the controls, the Relation, one Clock of it, the Sight
--- of fetch, Timing, Retirement, and the Theorem. What follows from it: Uses, Prefix, Midrun, TwoRuns. Without the premise: Own, Contents. Of the
--- premise: Decide, Examples.
+-- Demand 3. To be read: Statement, and Seen for its weakest premise. The proof: Laws of the instruction set, Signals of the controls, the Relation, one
+-- Clock of it, Timing, the Reach and the Sight of a fetch, Retirement, and the Theorem. What follows from it: Uses, Prefix, Midrun, TwoRuns. Without
+-- the premise: Own, Contents. Of the premise: that it is needed (Back, Needed), Decide, DecideSeen, Examples, SeenExamples.
 pub mod Names
 pub mod Statement
+pub mod Seen
 pub mod Laws
 pub mod Signals
 pub mod Relation
 pub mod Clock
-pub mod Sight
 pub mod Timing
+pub mod Reach
+pub mod Sight
 pub mod Retirement
 pub mod Theorem
 pub mod Uses

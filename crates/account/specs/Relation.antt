@@ -13,10 +13,13 @@ use Rattle.clocked.specs.Charges.{due}
 use Rattle.clocked.specs.Pipeline.{Piped, executing, waits, fetchAddress}
 use Rattle.account.specs.Laws.{bit, wrongAt, patchesAt}
 use Rattle.account.specs.Signals.{waitsFor}
+use Rattle.account.specs.Seen.{wait}
 
--- none of the instructions j + 1 to n writes into the window
-abbrev pub Unpatched : Plain → ℕ → ℕ → Type 0
-Unpatched s j n = (i : ℕ) → j ≤ i → i < n → patchesAt (steps s i) ≡ false
+-- of the first n instructions the first j are due by cycle d, and no other
+pub record Sees (g : Core) (s : Plain) (d j n : ℕ) : Type 0 where
+  pub lo : j ≤ n
+  pub older : (i : ℕ) → i < j → due g s (suc i) ≤ d
+  pub later : j < n → d < due g s (suc j)
 
 module _ (g : Core) (s : Plain) (K : ℕ) where
   -- instruction n + 1 is performed, and within the premise
@@ -41,6 +44,7 @@ module _ (g : Core) (s : Plain) (K : ℕ) where
     stopF : isStopped (steps s n) ≡ true → AtF p c n
     readyF : Known n → fetchAddress g p ≡ steps s n .machine .address
         → (p .pipeline .d ≡ bubbleD) ⊎ (p .pipeline .predicted ≡ steps s n .machine .address)
+        → bit (waitsFor g (p .pipeline .d) (fetched (steps s n))) ≡ wait g s (suc n)
         → due g s (suc n) ≡ c + 5 + bit (waits g p) + bit (waitsFor g (p .pipeline .d) (fetched (steps s n))) → AtF p c n
 
   -- what is younger than the instruction in D: behind a jump that will prove wrongly guessed, behind a return, and behind

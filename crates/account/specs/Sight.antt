@@ -1,11 +1,11 @@
--- Within the premise a fetch sees the bytes that the plain engine will see, though up to three older stores are still to come. With a window
--- there is no premise: a store into the window cancels what is behind it, and any other writes no byte of an instruction.
+-- Where no store writes a byte of an instruction that is fetched before, a fetch sees the bytes that the plain engine will see. With a window that
+-- is so of itself: behind a store into the window every instruction is fetched later, and any other store writes no byte of an instruction.
 use Prim.Native.Nat.{ℕ, zero, suc, _+_, _-_, _≤_, _<_, _/_, min}
 use mathlib.Core.Bool.{Bool, true, false, cond, _&&_, true≢false}
 use mathlib.Core.Path.{_≡_, refl, ap, sym, _∙_, subst}
 use native.Mathlib.Omega.{arith}
 use native.Mathlib.Decide.{decLt}
-use borrow.Author.Tests.{lt-ltb, le-leb, ltb-true, ltb-false, leb-true}
+use borrow.Author.Tests.{lt-ltb, le-leb, ltb-true, ltb-false, leb-true, leb-false}
 use lib.Dec.{ltb, leb}
 use lib.ListN.{length, getD, take, drop, length-take, length-drop}
 use lib.Seq.{ext-getD, getD-take, getD-drop}
@@ -21,9 +21,13 @@ use Rattle.published.specs.Lengths.{length-rule, parts}
 use Rattle.published.specs.Fetching.{code-end-within}
 use Rattle.machine.specs.Plain.{Plain, isStopped, fetched, decoded, executed, accessed, step, steps}
 use Rattle.clocked.specs.Prediction.{Core}
+use Rattle.clocked.specs.Charges.{reasonOf, charge, charges, due}
 use Rattle.clocked.specs.Premise.{Premise, writesByte, hasByte}
-use Rattle.account.specs.Laws.{patchesAt, store-succeeds, in-executed, step-memory, stopped-before}
-use Rattle.account.specs.Relation.{Unpatched, Known}
+use Rattle.account.specs.Laws.{patchesAt, store-succeeds, in-executed, step-memory, stopped-before, waiting-less}
+use Rattle.account.specs.Relation.{Known, Sees}
+use Rattle.account.specs.Timing.{up-to, due-order}
+use Rattle.account.specs.Seen.{wait, fetchCycle, dueAmong, seen, FetchedAlike, Seen, FetchedBefore, UntouchedAhead}
+use Rattle.account.specs.Reach.{UntouchedStraight, straight-ahead}
 
 -- WHAT A STORE LEAVES
 pub size-newMemory : (x : Executed) (m : Memory) → size (newMemory x m) ≡ size m
@@ -157,37 +161,118 @@ writes-patches s first end x w lo hi h =
       lt-ltb first (a + 8) (omega arith),
     )
 
-module _ (g : Core) (s : Plain) (K : ℕ) (u : Premise s K) where
-  -- instruction j + 1 writes no byte of instruction n + 1, by the premise or because it would cancel it
-  apart : (j n : ℕ) → j < n → n ≤ j + 3 → Known g s K n → patchesAt (steps s j) ≡ false
-      → (x : ℕ) → writesByte (steps s j) x ≡ true → hasByte (steps s n) x ≡ true → ⊥
-  unfolding isSet hasByte codeEnd
-  apart j n lo hi l z x h k = go (s .memory .window) refl
+-- so with a window no store that is not seen writes a byte of an instruction
+window-apart : (s : Plain) (j n x : ℕ) → isSet (s .memory .window) ≡ true → patchesAt (steps s j) ≡ false → writesByte (steps s j) x ≡ true
+    → hasByte (steps s n) x ≡ true → ⊥
+unfolding isSet hasByte codeEnd
+window-apart s j n x set z h k = go (s .memory .window) refl
+  where
+    a : ℕ
+    a = steps s n .machine .address
+
+    go : (w : Window) → s .memory .window ≡ w → ⊥
+    go noWindow e = true≢false (sym set ∙ ap isSet e)
+    go (within first end) e =
+        let p = both (leb a x) (ltb x (a + sizeAt (steps s n .memory) a) && ltb x (codeEnd (steps s n .memory) a)) k in
+        let q = both (ltb x (a + sizeAt (steps s n .memory) a)) (ltb x (codeEnd (steps s n .memory) a)) (p .1) in
+        let below : x < seenTo (within first end) (size (steps s n .memory)) a =
+        subst (λ w. x < seenTo w (size (steps s n .memory)) a) (steps-keep s n .0 ∙ e) (ltb-true x (codeEnd (steps s n .memory) a) (q .1)) in
+        let r = code-inside first end (size (steps s n .memory)) a x (leb-true a x (p .0)) below in
+        true≢false (sym (writes-patches (steps s j) first end x (steps-keep s j .0 ∙ e) (r .0) (r .1) h) ∙ z)
+
+-- WHAT A FETCH SEES
+module _ (g : Core) (s : Plain) where
+  pub sees-number : (d n : ℕ) → Sees g s d (dueAmong g s d n) n
+  unfolding dueAmong
+  sees-number d zero = record { lo = omega arith; older = λ i q. absurd (omega arith); later = λ q. absurd (omega arith) }
+  sees-number d (suc n) = by (leb (due g s (suc n)) d) refl (sees-number d n)
     where
-      a : ℕ
-      a = steps s n .machine .address
+      by : (b : Bool) → leb (due g s (suc n)) d ≡ b → Sees g s d (dueAmong g s d n) n → Sees g s d (cond b (suc n) (dueAmong g s d n)) (suc n)
+      by true e v =
+          record {
+            lo = omega arith;
+            older = λ i q. omega (arith, leb-true (due g s (suc n)) d e, due-order g s (suc i) (suc n) (omega arith));
+            later = λ q. absurd (omega arith);
+          }
+      by false e v =
+          record {
+            lo = omega (arith, v .lo);
+            older = v .older;
+            later =
+                λ q. up-to {P = λ (i : ℕ). i ≡ dueAmong g s d n → d < due g s (suc i)} n (λ i q z. rw z (v .later (omega arith)))
+                (λ z. leb-false (due g s (suc n)) d e) (dueAmong g s d n) q refl;
+          }
 
-      go : (w : Window) → s .memory .window ≡ w → ⊥
-      go noWindow e = u (ap isSet e) j n lo hi (l .below) (l .runs) x h k
-      go (within first end) e =
-          let p = both (leb a x) (ltb x (a + sizeAt (steps s n .memory) a) && ltb x (codeEnd (steps s n .memory) a)) k in
-          let q = both (ltb x (a + sizeAt (steps s n .memory) a)) (ltb x (codeEnd (steps s n .memory) a)) (p .1) in
-          let below : x < seenTo (within first end) (size (steps s n .memory)) a =
-          subst (λ w. x < seenTo w (size (steps s n .memory)) a) (steps-keep s n .0 ∙ e) (ltb-true x (codeEnd (steps s n .memory) a) (q .1)) in
-          let r = code-inside first end (size (steps s n .memory)) a x (leb-true a x (p .0)) below in
-          true≢false (sym (writes-patches (steps s j) first end x (steps-keep s j .0 ∙ e) (r .0) (r .1) h) ∙ z)
+  -- there is one such number
+  pub sees-only : {d i j n : ℕ} → Sees g s d i n → Sees g s d j n → i ≡ j
+  sees-only {d} {i} {j} {n} a b = go (decLt i j) (decLt j i)
+    where
+      go : Dec (i < j) → Dec (j < i) → i ≡ j
+      go (yes h) _ = absurd (omega (arith, a .later (omega (arith, b .lo)), b .older i h))
+      go (no _) (yes h) = absurd (omega (arith, b .later (omega (arith, a .lo)), a .older j h))
+      go (no x) (no y) = omega arith
 
-  back : (d j n : ℕ) → d + j ≡ n → d ≤ 3 → Known g s K n → Unpatched s j n → Same (steps s j .memory) (steps s n .memory) (steps s n .machine .address)
-  unfolding steps hasByte
-  back zero j n e b l z =
-      let q : j ≡ n = omega arith in
-      rw q (record { end = refl; at = λ x _ _ _. refl })
-  back (suc d) j n e b l z =
-      same-back (steps s j) (steps s n .memory) (steps s n .machine .address) (runs-before s (suc d) j n e (l .runs))
-      (back d (suc j) n (omega arith) (omega arith) l (λ i p q. z i (omega arith) q))
-      (λ x st lo hi q. apart j n (omega arith) (omega arith) l (z j (omega arith) (omega arith)) x st (cc (le-leb _ _ lo, lt-ltb _ _ hi, lt-ltb _ _ q)))
+  -- instruction n + 1 is fetched four cycles before it is due, and one more where it waits
+  pub fetch-due : (n : ℕ) → fetchCycle g s (suc n) + 4 + wait g s (suc n) ≡ due g s (suc n)
+  unfolding fetchCycle wait due charges charge
+  fetch-due n = omega (arith, waiting-less (reasonOf g s (suc n)))
 
-  pub sight : (j n : ℕ) → j ≤ n → n ≤ j + 3 → Known g s K n → Unpatched s j n
+-- THE PREMISE, by pairs and by threes
+module _ (g : Core) (s : Plain) where
+  -- one instruction: no store that its fetch does not see writes a byte of it
+  module _ (n : ℕ) (r : isStopped (steps s n) ≡ false)
+      (u : (j : ℕ) → j < n → FetchedBefore g s n j → (x : ℕ) → writesByte (steps s j) x ≡ true → hasByte (steps s n) x ≡ true → ⊥) where
+    -- what is not seen is not due by the cycle of the fetch
+    late : (j : ℕ) → dueAmong g s (fetchCycle g s (suc n)) n ≤ j → j < n → FetchedBefore g s n j
+    late j b h =
+        let m = dueAmong g s (fetchCycle g s (suc n)) n in
+        omega (arith, fetch-due g s n, sees-number g s (fetchCycle g s (suc n)) n .later (omega arith), due-order g s (suc m) (suc j) (omega arith))
+
+    back : (d j : ℕ) → d + j ≡ n → dueAmong g s (fetchCycle g s (suc n)) n ≤ j → Same (steps s j .memory) (steps s n .memory) (steps s n .machine .address)
+    unfolding steps hasByte
+    back zero j e b =
+        let q : j ≡ n = omega arith in
+        rw q (record { end = refl; at = λ x _ _ _. refl })
+    back (suc d) j e b =
+        same-back (steps s j) (steps s n .memory) (steps s n .machine .address) (runs-before s (suc d) j n e r) (back d (suc j) (omega arith) (omega arith))
+        (λ x st lo hi q. u j (omega arith) (late j b (omega arith)) x st (cc (le-leb _ _ lo, lt-ltb _ _ hi, lt-ltb _ _ q)))
+
+    pub alike-at : FetchedAlike g s n
+    unfolding fetched seen
+    alike-at =
+        let j = dueAmong g s (fetchCycle g s (suc n)) n in
+        same-fetch (steps s j .memory) (steps s n .memory) (steps s n .machine .address)
+        (back (n - j) j (omega (arith, sees-number g s (fetchCycle g s (suc n)) n .lo)) (omega arith))
+
+  pub ahead-seen : (K : ℕ) → UntouchedAhead g s K → Seen g s K
+  ahead-seen K u n q r = alike-at n r (λ j lo d. u j n lo d q r)
+
+  -- document 01's three instructions, and nothing where a window is set
+  pub premise-straight : (K : ℕ) → Premise s K → UntouchedStraight g s K
+  premise-straight K u j n lo hi between q r x w k = go (isSet (s .memory .window)) refl
+    where
+      go : (b : Bool) → isSet (s .memory .window) ≡ b → ⊥
+      go true e = window-apart s j n x e (between j (omega arith) lo .keeps) w k
+      go false e = u e j n lo hi q r x w k
+
+  pub premise-seen : (K : ℕ) → Premise s K → Seen g s K
+  premise-seen K u = ahead-seen K (straight-ahead g s K (premise-straight K u))
+
+  -- from a stop on no instruction is performed: the premise over the n instructions up to it is the premise throughout
+  pub seen-on : (n : ℕ) → isStopped (steps s n) ≡ true → Seen g s n → (K : ℕ) → Seen g s K
+  seen-on n h u K i q r = go (decLt i n)
+    where
+      go : Dec (i < n) → FetchedAlike g s i
+      go (yes z) = u i z r
+      go (no z) = absurd (true≢false (sym h ∙ runs-before s (i - n) n i (omega arith) r))
+
+-- SIGHT: what the relation knows of memory when an instruction is fetched is the memory that the premise speaks of
+module _ (g : Core) (s : Plain) (K : ℕ) (u : Seen g s K) (c : ℕ) where
+  pub sight : (j n : ℕ) → Sees g s (c + 1) j n → due g s (suc n) ≡ c + 5 + wait g s (suc n) → Known g s K n
       → fetch (steps s j .memory) (steps s n .machine .address) ≡ fetched (steps s n)
-  unfolding fetched
-  sight j n a b l z = same-fetch (steps s j .memory) (steps s n .memory) (steps s n .machine .address) (back (n - j) j n (omega arith) (omega arith) l z)
+  unfolding seen
+  sight j n v t l =
+      let at : fetchCycle g s (suc n) ≡ c + 1 = omega (arith, fetch-due g s n) in
+      let e : dueAmong g s (fetchCycle g s (suc n)) n ≡ j
+      = ap (λ (d : ℕ). dueAmong g s d n) at ∙ sees-only g s (sees-number g s (c + 1) n) v in
+      ap (λ (i : ℕ). fetch (steps s i .memory) (steps s n .machine .address)) (sym e) ∙ u n (l .below) (l .runs)

@@ -14,8 +14,9 @@ use Rattle.clocked.specs.Prediction.{Core}
 use Rattle.clocked.specs.Charges.{reasonFrom, reasonOf, kindsOf, charge, charges, amount, due, dueCycles}
 use Rattle.clocked.specs.Pipeline.{Piped, pipeStart, waits, waitsBehind, mended, returnedTo, fetchAddress, lastAfter}
 use Rattle.clocked.specs.Pipeline.{retiredAfter, kindsAfter, keptAfter, logged, advanced, stoppedIn, clock, clocks}
-use Rattle.clocked.specs.Premise.{Premise}
 use Rattle.account.specs.Statement.{Start, plainFrom, pipedFrom, DueBy, keptOf, Agrees, Demand3}
+use Rattle.account.specs.Seen.{wait, waiting, Seen, UntouchedAhead, Demand3Under}
+use Rattle.account.specs.Reach.{UntouchedStraight, straight-ahead}
 use Rattle.account.specs.Laws
 use Rattle.account.specs.Laws.{bit}
 use Rattle.account.specs.Signals.{waitsFor}
@@ -123,7 +124,7 @@ module _ (g : Core) (s : Plain) (k : ℕ) where
       now : p .pipeline .cycles + 1 ≡ due g s (suc n)
       now = omega arith
 
-  module _ (len : (n : ℕ) → length (steps s n .machine .registers) ≡ 15) (u : Premise s (suc k)) where
+  module _ (len : (n : ℕ) → length (steps s n .machine .registers) ≡ 15) (u : Seen g s (suc k)) where
     module _ (p : Piped) (c n : ℕ) (i : Counted p n) (o : Older g s c n) (y : p .pipeline .cycles ≡ c) (v : p .pipeline .kept ≡ keptOf s n)
         (h : p .pipeline .registers ≡ steps s n .machine .registers) where
       after-bubble : isStopped (steps s n) ≡ false → p .pipeline .w ≡ bubbleW → AtM g s (suc k) p c n → After (advanced g p) (suc c) n
@@ -140,7 +141,7 @@ module _ (g : Core) (s : Plain) (k : ℕ) where
                   blame = i .blame;
                 };
             older = older-later g s o (suc c) (omega arith);
-            now = going refl (omega arith) (cc) (Clock.clock-empty g s (suc k) p c (Sight.sight g s (suc k) u) len n r h w a);
+            now = going refl (omega arith) (cc) (Clock.clock-empty g s (suc k) p c (Sight.sight g s (suc k) u c) len n (older-later g s o (c + 1) (omega arith) .arrived) r h w a);
           }
 
       module _ (l : Known g s (suc k) n) (w : p .pipeline .w ≡ inW (accessed (steps s n))) (t : due g s (suc n) ≡ c + 1) (a : AtM g s (suc k) p c (suc n)) where
@@ -150,7 +151,7 @@ module _ (g : Core) (s : Plain) (k : ℕ) where
             record {
               counts = counted-next p (advanced g p) c n i (books-retires g p (accessed (steps s n)) w) y v (l .runs) t (i .blame ∙ sym (Laws.step-blame (steps s n) (l .runs) r));
               older = older-next g s o (l .runs) (suc c) (omega arith) (omega arith);
-              now = going refl (omega arith) (cc) (Clock.clock-full g s (suc k) p c (Sight.sight g s (suc k) u) len n l r h w a);
+              now = going refl (omega arith) (cc) (Clock.clock-full g s (suc k) p c (Sight.sight g s (suc k) u c) len n (older-next g s o (l .runs) (c + 1) (omega arith) t .arrived) l r h w a);
             }
 
         after-stops : isStopped (steps s (suc n)) ≡ true → After (stoppedIn g p (accessed (steps s n))) (suc c) (suc n)
@@ -217,17 +218,17 @@ module _ (g : Core) (s : Plain) (k : ℕ) where
 module _ (g : Core) (t : Start) (k : ℕ) where
   start-after : After g (plainFrom t) k (pipedFrom t) 0 0
   unfolding plainFrom pipedFrom plainStart pipeStart steps isStopped isBad dueCycles kindsOf keptOf due charges charge reasonOf amount bit
-      waits waitsBehind waitsFor fetchAddress mended returnedTo
+      waits waitsBehind waitsFor fetchAddress mended returnedTo wait waiting
   start-after =
       record {
         counts = record { retired = refl; addresses = refl; cycles = refl; kinds = refl; last = refl; blame = refl };
         older = record { performed = λ j q. absurd (omega arith); arrived = λ j q. absurd (omega arith) };
         now =
             going refl refl refl (emptyW refl refl refl
-            (emptyM refl refl refl (emptyE refl refl (emptyD refl (readyF (record { runs = refl; below = omega arith }) refl (inl refl) refl)))));
+            (emptyM refl refl refl (emptyE refl refl (emptyD refl (readyF (record { runs = refl; below = omega arith }) refl (inl refl) refl refl)))));
       }
 
-  pub after-clocks : length (t .registers) ≡ 15 → Premise (plainFrom t) (suc k) → (c : ℕ) → c ≤ due g (plainFrom t) (suc k)
+  pub after-clocks : length (t .registers) ≡ 15 → Seen g (plainFrom t) (suc k) → (c : ℕ) → c ≤ due g (plainFrom t) (suc k)
       → (n : ℕ) × After g (plainFrom t) k (clocks g (pipedFrom t) c) c n
   unfolding clocks plainFrom plainStart
   after-clocks l u zero q = (0, start-after)
@@ -235,7 +236,18 @@ module _ (g : Core) (t : Start) (k : ℕ) where
       let x = after-clocks l u c (omega arith) in
       after-clock g (plainFrom t) k (Laws.length-steps (plainFrom t) l) u (clocks g (pipedFrom t) c) c (x .0) q (x .1)
 
-pub demand3 : Demand3
-demand3 g t l k u c q =
+-- DEMAND 3 on its weakest premise
+pub demand3-seen : Demand3Under Seen
+demand3-seen g t l k u c q =
     let x = after-clocks g t k l u c q in
     (x .0, agrees g (plainFrom t) k (clocks g (pipedFrom t) c) c (x .0) (x .1) q)
+
+-- by pairs, by threes as far as the pipeline is not turned, and as document 01 says it
+pub demand3-ahead : Demand3Under UntouchedAhead
+demand3-ahead g t l k u = demand3-seen g t l k (Sight.ahead-seen g (plainFrom t) (suc k) u)
+
+pub demand3-straight : Demand3Under UntouchedStraight
+demand3-straight g t l k u = demand3-ahead g t l k (straight-ahead g (plainFrom t) (suc k) u)
+
+pub demand3 : Demand3
+demand3 g t l k u = demand3-straight g t l k (Sight.premise-straight g (plainFrom t) (suc k) u)

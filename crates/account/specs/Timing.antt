@@ -95,7 +95,7 @@ module _ (g : Core) (s : Plain) (K : ℕ) (p : Piped) (c : ℕ) where
   late-F : (n : ℕ) → isStopped (steps s n) ≡ false → AtF g s K p c n → (c + 4 < due g s (suc n)) ⊎ Beyond g s K n
   late-F n r (beyondF h) = inr h
   late-F n r (stopF h) = absurd (true≢false (sym h ∙ r))
-  late-F n r (readyF l a h t) = inl (omega arith)
+  late-F n r (readyF l a h y t) = inl (omega arith)
 
   late-D : (n : ℕ) → isStopped (steps s n) ≡ false → AtD g s K p c n → (c + 3 < due g s (suc n)) ⊎ Beyond g s K n
   late-D n r (beyondD h) = inr h

@@ -18,7 +18,7 @@ use Rattle.machine.specs.Plain.{Plain, plainOf, plainStart, isStopped, steps}
 use Rattle.clocked.specs.Prediction.{Core, coreOf}
 use Rattle.clocked.specs.Charges.{kindsOf, due, dueCycles}
 use Rattle.clocked.specs.Pipeline.{pipedOf, pipeStart, clocks}
-use Rattle.clocked.specs.Premise.{Premise}
+use Rattle.account.specs.Seen.{Seen}
 use Rattle.machine.specs.Runs.{laid, sizeRefused, budgetRefused, logRefused, windowRefused, plainLimit, plainAnswer, lowest}
 use Rattle.clocked.specs.PipeRuns.{recordRefused, pipeLimit, pipeAnswer}
 use Rattle.machine.specs.Runs.{plainRefusal, PlainAnswer, plainDone, plainBy, plainRun}
@@ -28,9 +28,10 @@ use Rattle.account.specs.Laws.{step-logs}
 use Rattle.laws.specs.Tests.{neither}
 use Rattle.published.specs.Columns.{stays as step-still}
 use Rattle.account.specs.Timing.{up-to, due-most}
-use Rattle.account.specs.Uses.{due-only, due-stopped, untouched-on, always}
+use Rattle.account.specs.Sight.{seen-on}
+use Rattle.account.specs.Uses.{due-only, due-stopped, always}
 use Rattle.account.specs.Prefix.{Begins, begins-all, logs-begin}
-use Rattle.account.specs.Theorem.{demand3}
+use Rattle.account.specs.Theorem.{demand3-seen}
 
 -- LOGS
 -- a list l with x 0 to x (q - 1) in it
@@ -169,8 +170,8 @@ pipeUnlogged t clocked = pipeRunUnlogged (pipedFrom t .pipeline) (t .memory) clo
 -- HOW FAR THE PREMISE REACHES: to instruction k + 1, and no clock is past its due cycle; or, of a plain run that stopped, over the
 -- instructions that it performed, and then the pipeline may run on as long as it likes
 pub data Covered (t : Start) (clocked : ℕ) (x : PlainAnswer) : Type 0 where
-  to-the-clock : (k : ℕ) → Premise (plainFrom t) (suc k) → clocked ≤ due (chosen t) (plainFrom t) (suc k) → Covered t clocked x
-  to-the-stop : isBad (x .machine .status) ≡ true → Premise (plainFrom t) (x .machine .count) → Covered t clocked x
+  to-the-clock : (k : ℕ) → Seen (chosen t) (plainFrom t) (suc k) → clocked ≤ due (chosen t) (plainFrom t) (suc k) → Covered t clocked x
+  to-the-stop : isBad (x .machine .status) ≡ true → Seen (chosen t) (plainFrom t) (x .machine .count) → Covered t clocked x
 
 -- WHAT MAY BE COMPARED, of any two runs
 pub record EndsAgree (t : Start) (budget clocked : ℕ) (x : PlainAnswer) (y : PipeAnswer) : Type 0 where
@@ -311,13 +312,13 @@ module _ (t : Start) (budget clocked : ℕ) (log addresses cycles : List ℕ) wh
 
     agreed : Covered t clocked (plainAnswered t budget log) → (n : ℕ) × Agrees g (plainFrom t) (clocks g (pipedFrom t) clocked) clocked n
     unfolding plainDone isStopped
-    agreed (to-the-clock k u q) = demand3 g t l k u clocked q
+    agreed (to-the-clock k u q) = demand3-seen g t l k u clocked q
     agreed (to-the-stop h u) =
         let e = ap (λ (z : PlainAnswer). z .machine) (plain-is .0) in
         let q = performed .1 in
         let same = ap (λ m. m .count) e ∙ counts (performed .0) q in
         let stopped = sym (ap isStopped (q .settled)) ∙ (sym (ap (λ m. isBad (m .status)) e) ∙ h) in
-        always g t l (untouched-on (plainFrom t) (performed .0) stopped (subst (Premise (plainFrom t)) same u)) clocked
+        always g t l (seen-on g (plainFrom t) (performed .0) stopped (subst (Seen g (plainFrom t)) same u)) clocked
 
     -- TWO RUNS, neither refused, as far as the premise reaches
     pub two-runs : pipeAnswered t clocked addresses cycles .number ≡ 0 → Covered t clocked (plainAnswered t budget log)
@@ -337,7 +338,7 @@ module _ (t : Start) (budget clocked : ℕ) (log addresses cycles : List ℕ) wh
         rw (plain-is .0, unlogged-ran (pipedFrom t .pipeline) (t .memory) clocked y .0) (ends-agree (performed .0) (performed .1) (d .0) (d .1) [] [])
 
     -- the premise up to instruction k + 1 alone: its line and those before it, where the plain engine performed it and it is due
-    pub first-lines : pipeAnswered t clocked addresses cycles .number ≡ 0 → (k : ℕ) → Premise (plainFrom t) (suc k)
+    pub first-lines : pipeAnswered t clocked addresses cycles .number ≡ 0 → (k : ℕ) → Seen g (plainFrom t) (suc k)
         → k < plainAnswered t budget log .machine .count → due g (plainFrom t) (suc k) ≤ clocked → (i : ℕ) → i < suc k
         → (getD (plainAnswered t budget log .log) i 0 ≡ getD (pipeAnswered t clocked addresses cycles .addresses) i 0)
         × (getD (pipeAnswered t clocked addresses cycles .cycles) i 0 ≡ due g (plainFrom t) (suc i))

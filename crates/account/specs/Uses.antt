@@ -10,12 +10,12 @@ use Rattle.machine.specs.Plain.{Plain, plainStart, isStopped, steps}
 use Rattle.clocked.specs.Prediction.{Core}
 use Rattle.clocked.specs.Charges.{due}
 use Rattle.clocked.specs.Pipeline.{Piped, clocks}
-use Rattle.clocked.specs.Premise.{Premise}
+use Rattle.account.specs.Seen.{Seen}
 use Rattle.account.specs.Statement.{Start, plainFrom, pipedFrom, DueBy, Agrees}
-use Rattle.account.specs.Sight.{runs-before}
+use Rattle.account.specs.Sight.{runs-before, premise-seen}
 use Rattle.account.specs.Timing.{Older, exactly, exactly-stopped, due-grows, due-order}
 use Rattle.clock_laws.specs.Stops.{stays}
-use Rattle.account.specs.Theorem.{demand3}
+use Rattle.account.specs.Theorem.{demand3-seen}
 
 -- WHICH ARE DUE
 module _ (g : Core) (s : Plain) where
@@ -40,7 +40,7 @@ module _ (g : Core) (s : Plain) where
     before : (i : ℕ) → i < suc k → isStopped (steps s i) ≡ false
     before i h = runs-before s (k - i) i k (omega arith) r
 
-    due-in : DueBy g s (due g s (suc k)) (suc k)
+    pub due-in : DueBy g s (due g s (suc k)) (suc k)
     due-in = exactly g s (all-due (due g s (suc k)) (suc k) before (omega arith)) (λ _. due-grows g s (suc k))
 
     due-before : (c : ℕ) → suc c ≡ due g s (suc k) → DueBy g s c k
@@ -86,31 +86,23 @@ same-answer g s p q c m n a b = go (subst (λ (x : ℕ). Agrees g s p c x) (due-
         times true h = a .stopped h .2 ∙ sym (b .stopped (sym (ap isBad same) ∙ h) .2)
         times false h = a .running h ∙ sym (b .running (sym (ap isBad same) ∙ h))
 
--- from a stop on no instruction is performed: the premise over the n instructions up to it is the premise throughout
-pub untouched-on : (s : Plain) (n : ℕ) → isStopped (steps s n) ≡ true → Premise s n → (K : ℕ) → Premise s K
-untouched-on s n h u K o j i a b c r x w y = go (decLt i n)
-  where
-    go : Dec (i < n) → ⊥
-    go (yes q) = u o j i a b q r x w y
-    go (no q) = true≢false (sym h ∙ runs-before s (i - n) n i (omega arith) r)
-
 -- from a stop on a clock changes nothing
 module _ (g : Core) (t : Start) (l : length (t .registers) ≡ 15) where
   -- THE UNBOUNDED FORM: where the premise holds throughout, after every clock
-  pub always : ((K : ℕ) → Premise (plainFrom t) K) → (c : ℕ) → (n : ℕ) × Agrees g (plainFrom t) (clocks g (pipedFrom t) c) c n
+  pub always : ((K : ℕ) → Seen g (plainFrom t) K) → (c : ℕ) → (n : ℕ) × Agrees g (plainFrom t) (clocks g (pipedFrom t) c) c n
   unfolding due
-  always u c = demand3 g t l c (u (suc c)) c (omega arith)
+  always u c = demand3-seen g t l c (u (suc c)) c (omega arith)
 
   -- WITH A WINDOW SET there is no premise: after every clock, whatever is stored where
   pub with-window : isSet (t .settings .window) ≡ true → (c : ℕ) → (n : ℕ) × Agrees g (plainFrom t) (clocks g (pipedFrom t) c) c n
   unfolding plainFrom plainStart
-  with-window w = always (λ K o. absurd (true≢false (sym w ∙ o)))
+  with-window w = always (λ K. premise-seen g _ K (λ o. absurd (true≢false (sym w ∙ o))))
 
-  module _ (k : ℕ) (u : Premise (plainFrom t) (suc k)) where
+  module _ (k : ℕ) (u : Seen g (plainFrom t) (suc k)) where
     -- as many have retired as are due
     counted-off : (c n : ℕ) → c ≤ due g (plainFrom t) (suc k) → DueBy g (plainFrom t) c n → Agrees g (plainFrom t) (clocks g (pipedFrom t) c) c n
     counted-off c n q d =
-        let x = demand3 g t l k u c q in
+        let x = demand3-seen g t l k u c q in
         subst (λ (m : ℕ). Agrees g (plainFrom t) (clocks g (pipedFrom t) c) c m) (due-only g (plainFrom t) c (x .0) n (x .1 .exactly) d) (x .1)
 
     module _ (r : isStopped (steps (plainFrom t) k) ≡ false) where

@@ -12,11 +12,12 @@ use Rattle.machine.specs.Plain.{Plain, isStopped, steps}
 use Rattle.clocked.specs.Charges.{due}
 use Rattle.clocked.specs.Prediction.{core01, asIn01}
 use Rattle.clocked.specs.Pipeline.{Piped, pipeStart, clocks}
-use Rattle.clocked.specs.Premise.{Premise}
 use Rattle.clocked.specs.PipeRuns.{PipeAnswer, pipeDone}
 use Rattle.account.specs.Statement.{Start, plainFrom, pipedFrom, DueBy, Agrees}
-use Rattle.account.specs.Theorem.{demand3}
-use Rattle.account.specs.Uses.{due-only, due-stopped, untouched-on, always}
+use Rattle.account.specs.Seen.{Seen}
+use Rattle.account.specs.Sight.{seen-on}
+use Rattle.account.specs.Theorem.{demand3-seen}
+use Rattle.account.specs.Uses.{due-only, due-stopped, always}
 use Rattle.account.specs.Midrun.{Landed, in-mid-run}
 use Rattle.account.specs.TwoRuns.{unlogged-ran}
 use Rattle.block.specs.Block.{wordsIn, withWords, codesFrom}
@@ -69,16 +70,16 @@ module _ (memory registers result : List ℕ) (start codes budget : ℕ) where
         times false e = a .running (ap isBad (a .status) ∙ e)
 
     -- with the premise up to instruction k + 1 and no clock past its due cycle: registers, status, last address, retired and cycles
-    pub edge-shows : (k : ℕ) → Premise (plainFrom lent) (suc k) → budget ≤ due core01 (plainFrom lent) (suc k)
+    pub edge-shows : (k : ℕ) → Seen core01 (plainFrom lent) (suc k) → budget ≤ due core01 (plainFrom lent) (suc k)
         → (n : ℕ) × DueBy core01 (plainFrom lent) budget n
         × (answered ≡ shown (plainFrom lent) budget n (piped .memory) (piped .pipeline .codes) registers result)
     unfolding wordsIn
     edge-shows k u q =
-        let x = demand3 core01 lent refl k u budget q in
+        let x = demand3-seen core01 lent refl k u budget q in
         (x .0, x .1 .exactly, shows (x .0) (x .1))
 
     -- with two cycles to spare memory and codes too: ahead by the instructions that are due one cycle later, and two
-    pub edge-ahead : (k : ℕ) → Premise (plainFrom lent) (suc k) → budget + 2 < due core01 (plainFrom lent) (suc k)
+    pub edge-ahead : (k : ℕ) → Seen core01 (plainFrom lent) (suc k) → budget + 2 < due core01 (plainFrom lent) (suc k)
         → (n a b : ℕ) × DueBy core01 (plainFrom lent) budget n × DueBy core01 (plainFrom lent) (budget + 1) a × DueBy core01 (plainFrom lent) (budget + 2) b
         × (answered ≡ shown (plainFrom lent) budget n (steps (plainFrom lent) a .memory) (steps (plainFrom lent) b .machine .codes) registers result)
     unfolding wordsIn
@@ -90,12 +91,12 @@ module _ (memory registers result : List ℕ) (start codes budget : ℕ) where
     -- THE STOP: with the premise over the n instructions up to it, and a budget that reaches the cycle in which the last of them is due,
     -- whatever that budget is
     pub edge-stops : (n : ℕ) → ((i : ℕ) → i < n → isStopped (steps (plainFrom lent) i) ≡ false) → isStopped (steps (plainFrom lent) n) ≡ true
-        → Premise (plainFrom lent) n → due core01 (plainFrom lent) n ≤ budget
+        → Seen core01 (plainFrom lent) n → due core01 (plainFrom lent) n ≤ budget
         → answered ≡ shown (plainFrom lent) budget n (steps (plainFrom lent) n .memory) (steps (plainFrom lent) n .machine .codes) registers result
     unfolding wordsIn isStopped
     edge-stops n f b u q =
         let s = plainFrom lent in
-        let x = always core01 lent refl (untouched-on s n b u) budget in
+        let x = always core01 lent refl (seen-on core01 s n b u) budget in
         let e : x .0 ≡ n = due-only core01 s budget (x .0) n (x .1 .exactly) (due-stopped core01 s budget n f b q) in
         let a : Agrees core01 s piped budget n = subst (λ (m : ℕ). Agrees core01 s piped budget m) e (x .1) in
         let z = a .stopped (ap isBad (a .status) ∙ b) in
