@@ -1,7 +1,7 @@
 -- The pipeline's own account, premise or not: from a fresh start the k-th retirement is in cycle k + 4 plus the record's own kinds so far.
 -- The proof is the timing half of the relation alone, with the instructions that the pipeline itself holds.
 use Prim.Native.Nat.{ℕ, zero, suc, _+_, _≤_}
-use mathlib.Core.Bool.{Bool, true, false}
+use mathlib.Core.Bool.{Bool, true, false, true≢false}
 use mathlib.Core.Path.{_≡_, refl, ap, sym, _∙_, subst}
 use native.Mathlib.Omega.{arith}
 use Rattle.account.specs.Names.{Instruction, Decoded, Executed, Accessed, Retired, Kept, noneKept, lastKept}
@@ -11,7 +11,7 @@ use Rattle.machine.specs.Table.{is, ret}
 use Rattle.machine.specs.Stages.{decode, execute, access, sourceB, patches}
 use Rattle.clocked.specs.Prediction.{Core, mispredicted}
 use Rattle.clocked.specs.Charges.{noKinds, amount, reasonBehind, reasonFrom, retiredOf}
-use Rattle.clocked.specs.Pipeline.{Piped, pipeStart, afterM, handedA, executing, waits, mispredicts, fails, cancels, retInE, retInM, fetchedNow}
+use Rattle.clocked.specs.Pipeline.{Piped, pipeStart, afterM, handedA, executing, waits, mispredicts, fails, cancels, retInE, retInM, badInW, fetchedNow}
 use Rattle.clocked.specs.Pipeline.{source, retiredAfter, kindsAfter, keptAfter, advanced, stoppedIn, clock, clocks}
 use Rattle.account.specs.Statement.{Start, pipedFrom}
 use Rattle.account.specs.Laws
@@ -291,3 +291,36 @@ module _ (g : Core) (t : Start) where
       go : (p : Piped) → Own g p → p .pipeline .retired + total (p .pipeline .kinds) ≤ p .pipeline .cycles
       go p (running h l c k b y v e o) = l
       go p (stopped h e) = within p e
+
+-- while an instruction stands in D, behind no wrong guess and no failure, no return stands in E or M
+module _ (g : Core) (p : Piped) (c : ℕ) (m : mispredicts g p ≡ false) (i : Instruction) (d : p .pipeline .d ≡ inD i) where
+  settled-E : (k : Kept) (b : ℕ) → OwnE g p c k b → retInE (p .pipeline .e) ≡ false
+  settled-E k b (emptyE h _) = Signals.retE-bubble g p h
+  settled-E k b (fullE x h t (goesE _ q _)) = Signals.retE-in g p x h ∙ q
+  settled-E k b (fullE x h t (wrongE w)) = absurd (true≢false (sym w ∙ m))
+  settled-E k b (fullE x h t (retE q z)) = absurd (true≢false (cc))
+
+  settled-M : fails p ≡ false → (k : Kept) (b : ℕ) → OwnM g p c k b → (retInE (p .pipeline .e) ≡ false) × (retInM (p .pipeline .m) ≡ false)
+  settled-M f k b (emptyM h e) = (settled-E k b e, Signals.retM-bubble g p h)
+  settled-M f k b (fullM x h t a) = go (a f)
+    where
+      go : BehindM g p c x (behind g k b (x .instruction)) → (retInE (p .pipeline .e) ≡ false) × (retInM (p .pipeline .m) ≡ false)
+      go (goesM q e) = (settled-E _ _ e, Signals.retM-in g p x h ∙ q)
+      go (retM q _ z) = absurd (true≢false (cc))
+
+  settled-W : badInW (p .pipeline .w) ≡ false → fails p ≡ false → (k : Kept) (b : ℕ) → OwnW g p c k b
+      → (retInE (p .pipeline .e) ≡ false) × (retInM (p .pipeline .m) ≡ false)
+  unfolding badInW
+  settled-W s f k b (emptyW h a) = settled-M f k b a
+  settled-W s f k b (fullW w h t a) = settled-M f _ _ (a (sym (ap badInW h) ∙ s))
+
+pub settled : (g : Core) (t : Start) (c : ℕ) → isBad (clocks g (pipedFrom t) c .pipeline .status) ≡ false
+    → badInW (clocks g (pipedFrom t) c .pipeline .w) ≡ false → fails (clocks g (pipedFrom t) c) ≡ false
+    → (i : Instruction) → clocks g (pipedFrom t) c .pipeline .d ≡ inD i → mispredicts g (clocks g (pipedFrom t) c) ≡ false
+    → (retInE (clocks g (pipedFrom t) c .pipeline .e) ≡ false) × (retInM (clocks g (pipedFrom t) c .pipeline .m) ≡ false)
+settled g t c r s f i d m = go (own-clocks g t c)
+  where
+    go : Own g (clocks g (pipedFrom t) c)
+        → (retInE (clocks g (pipedFrom t) c .pipeline .e) ≡ false) × (retInM (clocks g (pipedFrom t) c .pipeline .m) ≡ false)
+    go (running _ _ c′ k b _ _ _ o) = settled-W g (clocks g (pipedFrom t) c) c′ m i d s f k b o
+    go (stopped h _) = absurd (true≢false (sym h ∙ r))
