@@ -85,14 +85,14 @@ unfoldable pub all : ℕ → (ℕ → Bool) → Bool
 all zero f = true
 all (suc n) f = f n && all n f
 
-all-each : (n : ℕ) (f : ℕ → Bool) → all n f ≡ true → (i : ℕ) → i < n → f i ≡ true
+pub all-each : (n : ℕ) (f : ℕ → Bool) → all n f ≡ true → (i : ℕ) → i < n → f i ≡ true
 unfolding all
 all-each zero f h i q = absurd (omega arith)
 all-each (suc n) f h i q =
     let b = both (f n) (all n f) h in
     up-to {P = λ (j : ℕ). f j ≡ true} n (all-each n f (b .1)) (b .0) i q
 
-each-all : (n : ℕ) (f : ℕ → Bool) → ((i : ℕ) → i < n → f i ≡ true) → all n f ≡ true
+pub each-all : (n : ℕ) (f : ℕ → Bool) → ((i : ℕ) → i < n → f i ≡ true) → all n f ≡ true
 unfolding all
 each-all zero f h = refl
 each-all (suc n) f h = cc (h n (omega arith), each-all n f (λ i q. h i (omega arith)))
