@@ -101,23 +101,27 @@ pub alike-decided : (g : Core) (s : Plain) (n : ℕ) → (isAlike g s n ≡ true
 unfolding isAlike
 alike-decided g s n = (same-sound _ _, same-complete _ _)
 
--- ALL OF THEM: an instruction is not performed, or it is fetched alike
+-- ALL OF THEM
+-- instruction n + 1 is not performed, or it is fetched alike
+unfoldable pub wellFetched : Core → Plain → ℕ → Bool
+wellFetched g s n = isStopped (steps s n) || isAlike g s n
+
 unfoldable pub allAlike : Core → Plain → ℕ → Bool
-allAlike g s K = all K (λ n. isStopped (steps s n) || isAlike g s n)
+allAlike g s K = all K (wellFetched g s)
 
 pub seen-decided : (g : Core) (s : Plain) (K : ℕ) → (allAlike g s K ≡ true) ↔ Seen g s K
-unfolding allAlike
+unfolding allAlike wellFetched
 seen-decided g s K = (sound, complete)
   where
     sound : allAlike g s K ≡ true → Seen g s K
-    sound h n q r = alike-decided g s n .0 (go (all-each K (λ n. isStopped (steps s n) || isAlike g s n) h n q))
+    sound h n q r = alike-decided g s n .0 (go (all-each K (wellFetched g s) h n q))
       where
-        go : isStopped (steps s n) || isAlike g s n ≡ true → isAlike g s n ≡ true
+        go : wellFetched g s n ≡ true → isAlike g s n ≡ true
         go z = cc
 
     complete : Seen g s K → allAlike g s K ≡ true
-    complete u = each-all K (λ n. isStopped (steps s n) || isAlike g s n) (λ n q. by n q (isStopped (steps s n)) refl)
+    complete u = each-all K (wellFetched g s) (λ n q. by n q (isStopped (steps s n)) refl)
       where
-        by : (n : ℕ) → n < K → (b : Bool) → isStopped (steps s n) ≡ b → isStopped (steps s n) || isAlike g s n ≡ true
+        by : (n : ℕ) → n < K → (b : Bool) → isStopped (steps s n) ≡ b → wellFetched g s n ≡ true
         by n q true e = cc
         by n q false e = cc (alike-decided g s n .1 (u n q e))

@@ -19,7 +19,7 @@ use Rattle.clocked.specs.Computing.{computing}
 use Rattle.account.specs.Statement.{Start, chosen, plainFrom, pipedFrom, keptOf, Agrees}
 use Rattle.account.specs.Seen.{waiting, wait, fetchCycle, dueAmong, seen, Seen, Demand3Under}
 use Rattle.account.specs.Decide.{touches, clear, all, untouched}
-use Rattle.account.specs.DecideSeen.{same, isAlike, allAlike, seen-decided}
+use Rattle.account.specs.DecideSeen.{same, isAlike, wellFetched, allAlike, seen-decided}
 use Rattle.account.specs.Theorem.{demand3-seen}
 
 -- codes ZF=1, start 0, all registers 0 but %rsp
@@ -44,7 +44,7 @@ pub record Sights : Type 0 where
   pub retired : ℕ
 
 pub sights : Start → ℕ → Sights
-unfolding computing plainFrom pipedFrom untouched touches clear all waiting wait fetchCycle dueAmong seen same isAlike allAlike
+unfolding computing plainFrom pipedFrom untouched touches clear all waiting wait fetchCycle dueAmong seen same isAlike wellFetched allAlike
 sights t k =
     let s = plainFrom t in
     let p = clocks (chosen t) (pipedFrom t) (due (chosen t) s k) .pipeline in
