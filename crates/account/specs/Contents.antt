@@ -63,7 +63,7 @@ unfolding placed
 bytes-placed zero m a v h = h
 bytes-placed (suc k) m a v h = bytes-placed k (set m a (v % 256)) (a + 1) (v / 256) (bytes-set m a (v % 256) (mod-lt v (omega arith)) h)
 
-bytes-stored : (x : Executed) (m : Memory) → Bytes (m .bytes) → Bytes (newMemory x m .bytes)
+pub bytes-stored : (x : Executed) (m : Memory) → Bytes (m .bytes) → Bytes (newMemory x m .bytes)
 unfolding newMemory store
 bytes-stored x m h = go (stores (x .instruction)) (inside m (accessAddress x))
   where

@@ -1,7 +1,7 @@
 -- Demand 3. To be read: Statement, and Seen for its weakest premise. The proof: Laws of the instruction set, Signals of the controls, the Relation, one
 -- Clock of it, Timing, the Reach and the Sight of a fetch, Retirement, and the Theorem. What follows from it: Uses, Prefix, Midrun, TwoRuns. Without
 -- the premise: Own, Contents. Of the premise: that it is needed (Back, Needed), Decide, DecideSeen, Examples,
--- SeenExamples, and where it breaks, Watch.
+-- SeenExamples, and where it breaks, Watch and Watching.
 pub mod Names
 pub mod Statement
 pub mod Seen
@@ -27,3 +27,4 @@ pub mod DecideSeen
 pub mod Examples
 pub mod SeenExamples
 pub mod Watch
+pub mod Watching

@@ -19,9 +19,8 @@ use Rattle.machine.specs.Plain.{Plain, isStopped, fetched, executed, accessed, 
 use Rattle.clocked.specs.Prediction.{Core, loadUse}
 use Rattle.clocked.specs.Charges.{retiredOf, charges, due, dueCycles}
 use Rattle.clocked.specs.Pipeline.{Piped, badInW, fails, fetchAddress, fetchedNow, logged, retiredAfter, advanced, stoppedIn, clock, clocks}
-use Rattle.clocked.specs.Premise.{writesByte}
 use Rattle.account.specs.Statement.{Start, plainFrom, pipedFrom, DueBy, keptOf, Agrees}
-use Rattle.account.specs.Seen.{wait, fetchCycle, dueAmong, seen, FetchedAlike, FetchedBefore, Seen}
+use Rattle.account.specs.Seen.{wait, fetchCycle, dueAmong, seen, FetchedAlike, Seen}
 use Rattle.account.specs.Laws
 use Rattle.account.specs.Laws.{bit, wrongAt, patchesAt}
 use Rattle.account.specs.Relation.{Sees}
@@ -192,7 +191,7 @@ failed? s = go (s .machine .status) (s .machine .blame .fault) refl refl
     go ins y e f = no (λ z. true≢false (cc (z .0)))
 
 -- a stop stays
-stop-stays : (s : Plain) → isStopped s ≡ true → step s ≡ s
+pub stop-stays : (s : Plain) → isStopped s ≡ true → step s ≡ s
 unfolding step
 stop-stays s h = cc
 

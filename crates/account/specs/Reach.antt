@@ -1,8 +1,8 @@
 -- Which stores a fetch does not see: those of at most three instructions before it, with no return, no wrongly guessed jump and no store into
 -- the window among them, for behind these every instruction is fetched late enough.
 use Prim.Native.Nat.{ℕ, suc, _+_, _≤_, _<_}
-use mathlib.Core.Bool.{Bool, true, false}
-use mathlib.Core.Path.{_≡_, refl, ap, sym, _∙_}
+use mathlib.Core.Bool.{true, false}
+use mathlib.Core.Path.{_≡_, ap, sym, _∙_}
 use native.Mathlib.Omega.{arith}
 use native.Mathlib.Decide.{decLt}
 use Rattle.machine.specs.Table.{is, ret}

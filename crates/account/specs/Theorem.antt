@@ -29,7 +29,7 @@ use Rattle.clock_laws.specs.Stops.{clock-still}
 use Rattle.account.specs.Retirement.{Books, clock-bubble, clock-retires, clock-stops, books-retires, books-stops}
 
 module _ (g : Core) (s : Plain) (k : ℕ) where
-  reason-kept : (n : ℕ) → reasonFrom g (keptOf s n) (fetched (steps s n)) ≡ reasonOf g s (suc n)
+  pub reason-kept : (n : ℕ) → reasonFrom g (keptOf s n) (fetched (steps s n)) ≡ reasonOf g s (suc n)
   unfolding keptOf reasonFrom reasonOf
   reason-kept zero = refl
   reason-kept (suc n) = refl
