@@ -19,7 +19,7 @@ use Rattle.machine.specs.Fetch.{fetch, sizeAt, checked, stopping, half, namesA,
 use Rattle.machine.specs.Stages.{stores, accessAddress, storedWord, newMemory}
 use Rattle.published.specs.Lengths.{length-rule, two, parts, hasRegisterByte}
 use Rattle.published.specs.Fetching.{M₁, M₈, aokAt, fetch-is, half-same, cond-same}
-use Rattle.junk.specs.Statement.{looked}
+use Rattle.junk.specs.Statement.{lookedOn, looked}
 
 -- two memories that differ in nothing but their bytes, of one size, and are the same at each address of which E holds
 pub record Alike (E : ℕ → Type 0) (u u′ : Memory) : Type 0 where
@@ -154,7 +154,7 @@ module _ (m m′ : Memory) (a : ℕ) (end : codeEnd m a ≡ codeEnd m′ a) (at 
 
     -- where the first byte and the end of memory do not decide, the register byte is looked at; where that names no 15, so is the constant
     module _ (f : leb (row .functions) (M₁ m a % 16) ≡ false) (n : ltb (codeEnd m a) (a + row .size) ≡ false) where
-      looked-on : looked m a ≡ cond (bad m) 2 (row .size)
+      looked-on : looked m a ≡ lookedOn (bad m) (row .size)
       unfolding looked
       looked-on = rw (f, n)
 
@@ -166,8 +166,8 @@ module _ (m m′ : Memory) (a : ℕ) (end : codeEnd m a ≡ codeEnd m′ a) (at 
           long = omega (arith, length-rule (M₁ m a / 16), two row t)
 
           go : (b : Bool) → bad m ≡ b → M₁ m (a + 1) ≡ M₁ m′ (a + 1)
-          go true e = at (a + 1) (omega arith) (omega (arith, looked-on ∙ ap (λ z. cond z 2 (row .size)) e)) (omega (arith, long, ltb-false (codeEnd m a) (a + row .size) n))
-          go false e = at (a + 1) (omega arith) (omega (arith, long, looked-on ∙ ap (λ z. cond z 2 (row .size)) e)) (omega (arith, long, ltb-false (codeEnd m a) (a + row .size) n))
+          go true e = at (a + 1) (omega arith) (omega (arith, looked-on ∙ ap (λ z. lookedOn z (row .size)) e)) (omega (arith, long, ltb-false (codeEnd m a) (a + row .size) n))
+          go false e = at (a + 1) (omega arith) (omega (arith, long, looked-on ∙ ap (λ z. lookedOn z (row .size)) e)) (omega (arith, long, ltb-false (codeEnd m a) (a + row .size) n))
 
       bad-same : bad m ≡ bad m′
       bad-same = misnamed-same (row .byte) (M₁ m (a + 1)) (M₁ m′ (a + 1)) second
@@ -175,14 +175,14 @@ module _ (m m′ : Memory) (a : ℕ) (end : codeEnd m a ≡ codeEnd m′ a) (at 
       read-same : bad m ≡ false → read m ≡ read m′
       unfolding aokAt hasRegisterByte
       read-same e =
-          let all : looked m a ≡ row .size = looked-on ∙ ap (λ z. cond z 2 (row .size)) e in
+          let all : looked m a ≡ row .size = looked-on ∙ ap (λ z. lookedOn z (row .size)) e in
           let w = ltb-false (codeEnd m a) (a + row .size) n in
           cc (
             first-same,
             half-same (namesA (row .byte)) _ _ (λ t. ap (_/ 16) (second (there-A (namesA (row .byte)) (namesB (row .byte)) t))),
             half-same (namesB (row .byte)) _ _ (λ t. ap (_% 16) (second (there-B (namesA (row .byte)) (namesB (row .byte)) t))),
             cond-same (ltb 8 (row .size)) _ _ 0
-            (λ t. number-same 8 (m .bytes) (m′ .bytes) (a + (row .size - 8)) (λ x lo hi. at x (omega (arith, ltb→lt 8 (row .size) t)) (omega (arith, all, ltb→lt 8 (row .size) t)) (omega (arith, ltb→lt 8 (row .size) t)))),
+                (λ t. number-same 8 (m .bytes) (m′ .bytes) (a + (row .size - 8)) (λ x lo hi. at x (omega (arith, ltb→lt 8 (row .size) t)) (omega (arith, all, ltb→lt 8 (row .size) t)) (omega (arith, ltb→lt 8 (row .size) t)))),
           )
 
       seen-on : seen false false false m ≡ seen false false false m′
@@ -216,10 +216,10 @@ module _ (m m′ : Memory) (a : ℕ) (end : codeEnd m a ≡ codeEnd m′ a) (at 
     looked-alike = rw (sym first-same, sym end) (go (leb (row .functions) (M₁ m a % 16)) (ltb (codeEnd m a) (a + row .size)) refl refl)
       where
         go : (c d : Bool) → leb (row .functions) (M₁ m a % 16) ≡ c → ltb (codeEnd m a) (a + row .size) ≡ d
-            → cond (c || d) 1 (cond (bad m) 2 (row .size)) ≡ cond (c || d) 1 (cond (bad m′) 2 (row .size))
+            → cond (c || d) 1 (lookedOn (bad m) (row .size)) ≡ cond (c || d) 1 (lookedOn (bad m′) (row .size))
         go true d f n = refl
         go false true f n = refl
-        go false false f n = ap (λ z. cond z 2 (row .size)) (bad-same f n)
+        go false false f n = ap (λ z. lookedOn z (row .size)) (bad-same f n)
 
   -- without a first byte none is looked at
   missing : (u : Memory) → leb (codeEnd u a) a ≡ true → fetch u a ≡ checked true true true true true (read m)
@@ -245,12 +245,12 @@ looked-within m a =
     row : Row
     row = rowOf (M₁ m a / 16)
 
-    named : (c : Bool) → T (hasRegisterByte (row .byte)) → cond c 2 (row .size) ≤ row .size
+    named : (c : Bool) → T (hasRegisterByte (row .byte)) → lookedOn c (row .size) ≤ row .size
     named true t = omega (arith, length-rule (M₁ m a / 16), two row t)
     named false t = omega arith
 
     go : (b : Bool) (y : RegisterByte) → row .byte ≡ y
-        → cond b 1 (cond (misnamed y (M₁ m (a + 1) / 16) (M₁ m (a + 1) % 16)) 2 (row .size)) ≤ row .size
+        → cond b 1 (lookedOn (misnamed y (M₁ m (a + 1) / 16) (M₁ m (a + 1) % 16)) (row .size)) ≤ row .size
     go true y e = omega (arith, length-rule (M₁ m a / 16))
     go false noByte e = omega arith
     go false bothNamed e = named (misnamed bothNamed (M₁ m (a + 1) / 16) (M₁ m (a + 1) % 16)) (rw e tt)

@@ -2,9 +2,8 @@
 -- of the answers of the runs: Answers. Of its hypothesis: Decide. That it is tight: Examples.
 pub mod Statement
 pub mod Bytes
-
-
 pub mod History
 pub mod Theorem
 pub mod Answers
 pub mod Decide
+pub mod Examples

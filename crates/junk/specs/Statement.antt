@@ -17,13 +17,17 @@ use Rattle.clocked.specs.Pipeline.{Piped, clocks}
 use Rattle.published.specs.Fetching.{M₁}
 use Rattle.account.specs.Statement.{Start, plainFrom, pipedFrom}
 
--- how many bytes of the instruction at a its fetch looks at, as far as there are any: the first alone, where code and function decide, or that a later
--- byte is missing; two, where the register byte does; else all
+-- how many bytes of an instruction its fetch looks at, where none of them is missing and code and function are in the table: two, where the register
+-- byte names a register 15; else all
+abbrev pub lookedOn : (misnamed : Bool) (length : ℕ) → ℕ
+lookedOn b n = cond b 2 n
+
+-- of the instruction at a, as far as there are any: the first alone, where code and function decide, or that a later byte is missing
 unfoldable pub looked : Memory → ℕ → ℕ
 looked m a =
     let row = rowOf (M₁ m a / 16) in
     cond (leb (row .functions) (M₁ m a % 16) || ltb (codeEnd m a) (a + row .size)) 1
-    (cond (misnamed (row .byte) (M₁ m (a + 1) / 16) (M₁ m (a + 1) % 16)) 2 (row .size))
+    (lookedOn (misnamed (row .byte) (M₁ m (a + 1) / 16) (M₁ m (a + 1) % 16)) (row .size))
 
 -- the fetch of the instruction performed at s looks at the byte at x
 unfoldable pub looksAt : Plain → ℕ → Bool
