@@ -3,6 +3,7 @@
 use crate::bench::Once;
 use crate::inspect::Asked;
 use crate::judge;
+use crate::junk;
 use crate::listing;
 use crate::replaying::Given;
 use crate::Fault;
@@ -18,6 +19,7 @@ pub enum Command {
     Replay(Asked),
     Read(listing::Asked),
     Peaks(judge::Asked),
+    Junk(junk::Asked),
     Bench,
     Instructions,
     /// One replay without a time, for `bench --instructions` to count.
@@ -30,15 +32,18 @@ pub fn read(words: Vec<OsString>) -> Result<Command, Fault> {
         return Ok(Command::Help);
     }
     let Some((first, rest)) = words.split_first() else {
-        return Err(usage("a command is missing: replay, read, peaks or bench"));
+        return Err(usage(
+            "a command is missing: replay, read, peaks, junk or bench",
+        ));
     };
     match first.to_str() {
         Some("replay") => replay(rest).map(Command::Replay),
         Some("read") => read_listing(rest).map(Command::Read),
         Some("peaks") => peaks(rest).map(Command::Peaks),
+        Some("junk") => junk(rest).map(Command::Junk),
         Some("bench") => bench(rest),
         _ => Err(usage(format!(
-            "{} is no command; there are replay, read, peaks and bench",
+            "{} is no command; there are replay, read, peaks, junk and bench",
             shown(first)
         ))),
     }
@@ -56,6 +61,13 @@ fn peaks(words: &[OsString]) -> Result<judge::Asked, Fault> {
     let mut options = Options::default();
     options.take("peaks", words)?;
     options.peaks()
+}
+
+/// The words after `desk junk`.
+fn junk(words: &[OsString]) -> Result<junk::Asked, Fault> {
+    let mut options = Options::default();
+    options.take("junk", words)?;
+    options.junk()
 }
 
 /// The words after `desk read`, in any order.
@@ -96,7 +108,7 @@ fn split(word: &str) -> (&str, Option<OsString>) {
     }
 }
 
-/// The words of one `desk replay` or `desk peaks`, by their place.
+/// The words of one `desk replay`, `desk peaks` or `desk junk`, by their place.
 #[derive(Default)]
 struct Options {
     image: Option<OsString>,
@@ -118,7 +130,9 @@ impl Options {
         let mut words = words.iter();
         while let Some(word) = words.next() {
             match word.to_str() {
-                Some("--second") => once("--second", self.second.replace(()))?,
+                Some("--second") if command != "junk" => {
+                    once("--second", self.second.replace(()))?;
+                }
                 Some("--listing") => once("--listing", self.listing.replace(()))?,
                 Some(name) if name.starts_with("--") => {
                     let (name, joined) = split(name);
@@ -143,10 +157,10 @@ impl Options {
     fn named(&mut self, command: &str, name: &str) -> Result<&mut Option<OsString>, Fault> {
         match (command, name) {
             (_, "--size") => Ok(&mut self.size),
-            ("replay", "--start") => Ok(&mut self.start),
-            ("replay", "--codes") => Ok(&mut self.codes),
+            ("replay" | "junk", "--start") => Ok(&mut self.start),
+            ("replay" | "junk", "--codes") => Ok(&mut self.codes),
             ("replay", "--budget") => Ok(&mut self.budget),
-            ("replay", "--registers") => Ok(&mut self.registers),
+            ("replay" | "junk", "--registers") => Ok(&mut self.registers),
             ("peaks", "--table") => Ok(&mut self.table),
             ("peaks", "--length") => Ok(&mut self.length),
             ("peaks", "--filed") => Ok(&mut self.filed),
@@ -183,6 +197,17 @@ impl Options {
             length: wanted("--length", self.length)?,
             filed: wanted("--filed", self.filed)?,
             second: self.second.is_some(),
+        })
+    }
+
+    /// The image and the start that are asked for.
+    fn junk(mut self) -> Result<junk::Asked, Fault> {
+        Ok(junk::Asked {
+            image: self.image("junk")?,
+            listing: self.listing()?,
+            registers: self.registers.map(Into::into),
+            start: number_or("--start", self.start, 0)?,
+            codes: number_or("--codes", self.codes, 4)?,
         })
     }
 

@@ -32,22 +32,30 @@ pub struct Source {
 /// The text to show for a replay, and the exit status.
 pub fn replay(asked: &Asked) -> Result<(String, u8), Fault> {
     let image = Source::image(&asked.image, asked.listing)?;
-    let file = match &asked.registers {
-        Some(path) => Source::read(path, REGISTER_BYTES)?,
-        None => Source::zeros(REGISTER_BYTES),
-    };
+    let file = registers(asked.registers.as_deref())?;
     let (mut memory, mut registers) = (image.bytes.clone(), file.bytes.clone());
     let answer = replaying::replay(asked.second, &mut memory, &mut registers, asked.given);
-    let told = answer.map_err(|number| {
-        let why = refusal(number, &asked.given, &image, &file);
-        Fault::new(Fault::REFUSED, format!("refused ({number}): {why}"))
-    })?;
+    let told = answer.map_err(|number| refused(number, &asked.given, &image, &file))?;
     let before = Before {
         memory: &image.bytes,
         budget: asked.given.budget,
     };
     let text = report::text(&told, &before, &memory, &registers);
     Ok((text, report::exit_status(&told.outcome)))
+}
+
+/// The registers in a file, or all 0 where none is given.
+pub fn registers(path: Option<&Path>) -> Result<Source, Fault> {
+    match path {
+        Some(path) => Source::read(path, REGISTER_BYTES),
+        None => Ok(Source::zeros(REGISTER_BYTES)),
+    }
+}
+
+/// A refusal, with what it means.
+pub fn refused(number: u64, given: &Given, image: &Source, registers: &Source) -> Fault {
+    let why = refusal(number, given, image, registers);
+    Fault::new(Fault::REFUSED, format!("refused ({number}): {why}"))
 }
 
 /// What a refusal means, in words. Number 4 is not among them: the result

@@ -4,6 +4,7 @@ mod arguments;
 mod bench;
 mod inspect;
 mod judge;
+mod junk;
 mod listing;
 mod replaying;
 mod report;
@@ -22,6 +23,7 @@ usage:
   desk peaks IMAGE --table A --length L --filed P
                                 replay it, and hold the filed peak against the
                                 largest good sample of the day
+  desk junk IMAGE [options]     which bytes play no part in the image's run
   desk bench                    time the engine against the second program
   desk bench --instructions     count both engines' instructions (by valgrind)
   desk --help                   this text
@@ -36,10 +38,10 @@ without overlap. Bytes that no line names are 0.
 
 options for a listing:
   --size N           how many bytes of memory the image has, 1 to 65,536 (4096)
-  --listing          of replay and peaks: IMAGE is a listing (with --size, if
-                     wanted)
+  --listing          of replay, peaks and junk: IMAGE is a listing (with
+                     --size, if wanted)
 
-options of replay:
+options of replay; the first two and --registers are junk's too:
   --start A          the address to start from, inside the image (0)
   --codes C          the condition codes, 4ZF + 2SF + OF, 0 to 7 (4: ZF alone)
   --budget B         the most cycles to run, 1 to 262,145 (4000)
@@ -64,6 +66,15 @@ word below 2^32 is a good sample, any other a failed one. --second gives a secon
 opinion. Exit status: 0 at the raw peak, 1 below it, 2 above it, 3 cannot be
 compared, 4 no good sample.
 
+junk names the bytes that the plain run neither fetches as instruction bytes nor
+reads as data, by the second program. Where that run stops within 65,536
+instructions, and no store writes into the next three, they may hold anything:
+each engine gives the same registers, codes, status, addresses and cycles, and
+the final memories differ there at most. That much is proved of the definitions;
+and the engine's replay is tried with each of them changed. Exit status: 0 so; 1
+a store writes into the next three, and it holds of the plain engine alone; 2
+the run does not stop.
+
 exit status of replay:
   0  HLT: the image halted
   1  AOK: the budget was spent before a stop
@@ -73,6 +84,7 @@ of all:
   10 refused: the message says why, with the number
   64 the command was at fault        66 a file could not be read
   69 bench: valgrind did not run     74 the output could not be written
+  70 junk: a byte that was named changed the replay, which must not happen
 ";
 
 /// A command that comes to nothing: what to say, and the exit status.
@@ -86,6 +98,7 @@ impl Fault {
     const USAGE: u8 = 64;
     const FILE: u8 = 66;
     const VALGRIND: u8 = 69;
+    const WRONG: u8 = 70;
     const OUTPUT: u8 = 74;
 
     fn new(status: u8, message: impl Into<String>) -> Fault {
@@ -118,6 +131,10 @@ fn perform(command: Command) -> Result<u8, Fault> {
         Command::Read(asked) => say(&listing::read(&asked)?).map(|()| 0),
         Command::Peaks(asked) => {
             let (text, status) = judge::day(&asked)?;
+            say(&text).map(|()| status)
+        }
+        Command::Junk(asked) => {
+            let (text, status) = junk::report(&asked)?;
             say(&text).map(|()| status)
         }
         Command::Bench => bench::times().map(|()| 0),

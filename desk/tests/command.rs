@@ -258,8 +258,12 @@ fn commands_at_fault_are_explained() {
     }
     fault(&bad("18446744073709551616"), 64, &["64 bits"]);
     fault(&bad("0x10000000000000000"), 64, &["64 bits"]);
-    fault(&[], 64, &["replay, read, peaks or bench"]);
-    fault(&["play"], 64, &["'play'", "replay, read, peaks and bench"]);
+    fault(&[], 64, &["replay, read, peaks, junk or bench"]);
+    fault(
+        &["play"],
+        64,
+        &["'play'", "replay, read, peaks, junk and bench"],
+    );
     fault(&["replay"], 64, &["image"]);
     fault(&["replay", &image, &image], 64, &["one image"]);
     fault(
@@ -492,4 +496,71 @@ fn a_day_that_cannot_be_judged_is_refused() {
         10,
         &["refused (5)", "0 bytes"],
     );
+}
+
+const NAMED: &str = "\
+run      instruction 11 stops it; no store writes into the next three
+claim    the bytes below may hold anything: both engines give the same
+bytes    182 of 256 play no part (by the second program)
+  0x42 (66) to 0x77 (119): 54 bytes
+  0x80 (128) to 0xff (255): 128 bytes
+tried    the engine's replay with each of them changed: the same
+";
+
+/// #112: which bytes a plant may call junk.
+#[test]
+fn bytes_without_a_part_are_named() {
+    let image = file("junk.img", &listing_001());
+    assert_eq!(said(&["junk", &image]), (0, NAMED.into(), String::new()));
+    // A nop, and a halt that a start at 1 comes to; `64` looks at one byte.
+    let halt = file("junk_halt.img", &from_hex("1000"));
+    let (status, output, _) = said(&["junk", &halt, "--start", "1", "--codes=0"]);
+    assert!(
+        status == 0 && output.contains("\n  0x0 (0): 1 byte\n"),
+        "{output}"
+    );
+    let function = file("junk_function.img", &from_hex("6400"));
+    let (_, output, _) = said(&["junk", &function]);
+    assert!(output.contains("\n  0x1 (1): 1 byte\n"), "{output}");
+}
+
+/// Where less or nothing is claimed, the first lines and the exit status say so.
+#[test]
+fn a_run_without_the_claim_is_told() {
+    // rmmovq %rax, 10(%rcx): halts over the nops behind it.
+    let touching = "40010a00000000000000 1010101010101010 10";
+    let touched = file("junk_touched.img", &from_hex(touching));
+    let (status, output, _) = said(&["junk", &touched]);
+    assert_eq!(status, 1);
+    assert!(
+        output.contains("instruction 1 writes into one of the next three"),
+        "{output}"
+    );
+    assert!(output.contains("for the plain engine alone") && !output.contains("tried"));
+    let endless = file("junk_endless.img", &from_hex("700000000000000000 00"));
+    let (status, output, _) = said(&["junk", &endless]);
+    assert_eq!(status, 2);
+    assert!(output.contains("does not stop within 65536"), "{output}");
+    assert!(output.contains("claim    none") && output.contains("0x9 (9): 1 byte"));
+}
+
+#[test]
+fn junk_is_refused_as_a_replay_is() {
+    let image = file("junk_refused.img", &listing_001());
+    let empty = file("junk_empty.img", &[]);
+    fault(&["junk", &empty], 10, &["refused (1)", "0 bytes"]);
+    fault(&["junk", &image, "--codes", "8"], 10, &["refused (5)"]);
+    fault(&["junk", &image, "--start", "256"], 10, &["refused (6)"]);
+    fault(
+        &["junk", &image, "--registers", &empty],
+        10,
+        &["refused (2)"],
+    );
+    fault(
+        &["junk", &image, "--budget", "8"],
+        64,
+        &["no option of junk"],
+    );
+    fault(&["junk", &image, "--second"], 64, &["no option of junk"]);
+    fault(&["junk"], 64, &["wants an image"]);
 }

@@ -86,3 +86,20 @@ pub fn own_bytes(memory: &[u8], address: u64) -> std::ops::Range<u64> {
     let length = u64::from(row_of(memory[address as usize] >> 4).length);
     address..size.min(address + length)
 }
+
+/// The bytes of an instruction that its fetch looks at: none, where the first
+/// is missing; the first alone, where code and function decide, or that a later
+/// one is missing; two, where the register byte does; else all (#112).
+pub fn looked_at(memory: &[u8], address: u64) -> std::ops::Range<u64> {
+    let own = own_bytes(memory, address);
+    let most = match fetch(memory, address) {
+        Ok(_) => own.end,
+        Err(stop) => match stop.reason {
+            Reason::None => own.end,
+            Reason::FirstMissing => own.start,
+            Reason::Code | Reason::Function | Reason::LaterMissing => own.start + 1,
+            Reason::Register => own.start + 2,
+        },
+    };
+    own.start..most
+}

@@ -16,6 +16,7 @@ mod flow;
 pub mod letter;
 pub mod listing;
 pub mod machine;
+pub mod part;
 pub mod peaks;
 pub mod pipeline;
 pub mod plain;

@@ -1,0 +1,57 @@
+//! Which bytes play a part in a plain run (#112): those that it fetches as
+//! instruction bytes, or reads as data.
+
+use super::fetch::{fetch, looked_at, Parts};
+use super::machine::{Status, RSP};
+use super::plain::Plain;
+use super::table::{MRMOVQ, POPQ, RET};
+use super::word;
+use std::ops::Range;
+
+/// For each byte of memory, whether one of the next instructions, at most so
+/// many, fetches or reads it. Memory and record are left as the last of them
+/// left them.
+pub fn played(machine: &mut Plain, memory: &mut [u8], most: u64) -> Vec<bool> {
+    let mut played = vec![false; memory.len()];
+    for _ in 0..most {
+        if machine.status != Status::Aok {
+            break;
+        }
+        mark(&mut played, looked_at(memory, machine.address));
+        if let Ok(parts) = fetch(memory, machine.address) {
+            mark(&mut played, read(machine, memory, &parts));
+        }
+        machine.perform(memory);
+    }
+    played
+}
+
+/// The bytes that play no part, as ranges that ascend and do not touch.
+pub fn no_part(played: &[bool]) -> Vec<Range<usize>> {
+    let mut ranges: Vec<Range<usize>> = Vec::new();
+    for (at, _) in played.iter().enumerate().filter(|(_, played)| !**played) {
+        match ranges.last_mut() {
+            Some(range) if range.end == at => range.end = at + 1,
+            _ => ranges.push(at..at + 1),
+        }
+    }
+    ranges
+}
+
+fn mark(played: &mut [bool], bytes: Range<u64>) {
+    played[bytes.start as usize..bytes.end as usize].fill(true);
+}
+
+/// The bytes that an instruction reads as data, by the record as it stands
+/// before it; a load outside memory reads none.
+fn read(before: &Plain, memory: &[u8], parts: &Parts) -> Range<u64> {
+    let at = match parts.code {
+        MRMOVQ => before.registers.get(parts.rb).wrapping_add(parts.constant),
+        POPQ | RET => before.registers.get(RSP),
+        _ => return 0..0,
+    };
+    match word::load(memory, at) {
+        Some(_) => at..at + 8,
+        None => 0..0,
+    }
+}
