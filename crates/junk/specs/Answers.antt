@@ -100,7 +100,7 @@ module _ (t : Start) (m′ : Memory) (rest : AtMost (t .memory) m′ (t .memory)
         go false = record { number = refl; pipeline = as-given; addresses = refl; cycles = refl; memory = rest }
           where
             as-given : SameRecord (pipedFrom t .pipeline) (pipedFrom t .pipeline)
-            as-given = record { settings = refl; registers = refl; codes = refl; status = refl; last = refl; retired = refl; cycles = refl; kinds = refl; kept = refl }
+            as-given = record { settings = refl; registers = refl; codes = refl; status = refl; last = refl; retired = refl; cycles = refl; kinds = refl; kept = refl; blame = refl }
 
 -- THE PLAIN RUN, whether it stops or not, and without the premise
 pub plain-answers : (t : Start) (m′ : Memory) → DifferOnlyAt (NoPart (plainFrom t)) (t .memory) m′

@@ -11,11 +11,14 @@ use lib.ListN.{length, getD, set, length-set, List·getD-eq-default}
 use lib.Seq.{getD-set-same, getD-set-other}
 use Rattle.machine.specs.declared.Executed.{Executed}
 use Rattle.machine.specs.declared.Instruction.{Instruction}
+use Rattle.machine.specs.declared.Fault.{Fault}
+use Rattle.machine.specs.declared.Fault.the-variants.{NoFault as noFault, FirstMissing as firstMissing, NoCode as noCode, NoFunction as noFunction}
+use Rattle.machine.specs.declared.Fault.the-variants.{LaterMissing as laterMissing, NoRegister as noRegister}
 use Rattle.laws.specs.Memory.{length-placed}
 use Rattle.machine.specs.Words.{sum, number, placed}
 use Rattle.machine.specs.Memory.{Memory, holding, size, seenTo, codeEnd, inside, load, store}
 use Rattle.machine.specs.Table.{Row, rowOf, RegisterByte, noByte, bothNamed, onlyB, onlyA}
-use Rattle.machine.specs.Fetch.{fetch, sizeAt, checked, stopping, half, namesA, namesB, misnamed}
+use Rattle.machine.specs.Fetch.{fetch, sizeAt, checked, half, namesA, namesB, misnamed, faultAt, blameOf}
 use Rattle.machine.specs.Stages.{stores, accessAddress, storedWord, newMemory}
 use Rattle.published.specs.Lengths.{length-rule, two, parts, hasRegisterByte}
 use Rattle.published.specs.Fetching.{M₁, M₈, aokAt, fetch-is, half-same, cond-same}
@@ -43,6 +46,19 @@ module _ (E : ℕ → Type 0) (u u′ : Memory) (h : Alike E u u′) where
 
   pub inside-alike : (a : ℕ) → inside u a ≡ inside u′ a
   inside-alike a = inside-holding u (u′ .bytes) (h .sizes) a ∙ sym (ap (λ (m : Memory). inside m a) (h .rest))
+
+  -- so a bad fetch is blamed on the same byte
+  pub blame-alike : (i : Instruction) → blameOf u i ≡ blameOf u′ i
+  unfolding blameOf faultAt
+  blame-alike i = cc (by (i .fault))
+    where
+      by : (f : Fault) → faultAt u (i .address) f ≡ faultAt u′ (i .address) f
+      by noFault = refl
+      by firstMissing = refl
+      by noCode = refl
+      by noFunction = refl
+      by laterMissing = end-alike (i .address)
+      by noRegister = refl
 
 -- STORE
 set-both : (u u′ : List ℕ) (a v x : ℕ) → length u ≡ length u′ → getD u x 0 ≡ getD u′ x 0 → getD (set u a v) x 0 ≡ getD (set u′ a v) x 0

@@ -10,7 +10,7 @@ use Rattle.machine.specs.declared.Executed.{Executed}
 use Rattle.machine.specs.declared.Status.{Status}
 use Rattle.machine.specs.Types.{isBad, isSet}
 use Rattle.machine.specs.Memory.{Memory, codeEnd, inside, load}
-use Rattle.machine.specs.Fetch.{fetch, sizeAt}
+use Rattle.machine.specs.Fetch.{fetch, sizeAt, blameOf}
 use Rattle.machine.specs.Stages.{decode, execute, access, accessStatus, patches, accessAddress, loads, newMemory}
 use Rattle.machine.specs.Plain.{Plain, isStopped, fetched, decoded, executed, accessed, performed, stoppedBy, step, steps}
 use Rattle.clocked.specs.Premise.{writesByte, hasByte, Premise}
@@ -18,7 +18,7 @@ use Rattle.published.specs.Fetching.{M₁}
 use Rattle.published.specs.Columns.{stays as step-still}
 use Rattle.account.specs.Sight.{runs-before}
 use Rattle.junk.specs.Statement.{looked, looksAt, readsByte, NoPart}
-use Rattle.junk.specs.Bytes.{Alike, end-alike, inside-alike, store-alike, load-same, same-fetch, size-same, looked-alike}
+use Rattle.junk.specs.Bytes.{Alike, end-alike, inside-alike, blame-alike, store-alike, load-same, same-fetch, size-same, looked-alike}
 
 -- an access is the same where the word that it loads is
 module _ (E : ℕ → Type 0) (x : Executed) (u u′ : Memory) (h : Alike E u u′) where
@@ -100,10 +100,13 @@ module _ (E : ℕ → Type 0) where
         (λ l. load-same (s .memory) (s′ .memory) accesses same-inside (λ i x lo hi. b .memory .same x (c .reads x (cc (i, le-leb _ _ lo, lt-ltb _ _ hi)))))
         ∙ ap (λ (x : Executed). access x (s′ .memory)) same-executed
 
+    same-blame : blameOf (s .memory) (fetched s) ≡ blameOf (s′ .memory) (fetched s′)
+    same-blame = blame-alike E (s .memory) (s′ .memory) (b .memory) (fetched s) ∙ ap (blameOf (s′ .memory)) same-fetched
+
     -- what it leaves is alike again: it writes the same bytes
     stopped-beside : (x : Status) → Beside (stoppedBy s x) (stoppedBy s′ x)
     unfolding stoppedBy
-    stopped-beside x = let k = b .machine in record { machine = cc; log = cc (b .log); memory = b .memory }
+    stopped-beside x = let k = b .machine in record { machine = cc (same-blame); log = cc (b .log); memory = b .memory }
 
     performed-beside : Beside (performed s) (performed s′)
     unfolding performed

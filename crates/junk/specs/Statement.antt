@@ -86,6 +86,7 @@ pub record SameRecord (k k′ : Pipeline) : Type 0 where
   pub cycles : k .cycles ≡ k′ .cycles
   pub kinds : k .kinds ≡ k′ .kinds
   pub kept : k .kept ≡ k′ .kept
+  pub blame : k .blame ≡ k′ .blame
 
 -- of the pipeline, after as many clocks
 pub record SameClock (m m′ : Memory) (p p′ : Piped) : Type 0 where

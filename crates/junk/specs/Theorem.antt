@@ -123,6 +123,7 @@ module _ (m m′ : Memory) (g : Core) (s s′ : Plain) (w : Twins (Same m m′) 
                 cycles = counts (isBad (p .pipeline .status)) refl;
                 kinds = x .kinds ∙ (kinds-alike (Same m m′) g s s′ w n runs ∙ sym (x′ .kinds));
                 kept = k;
+                blame = cc (x .blame, x′ .blame);
               };
           addresses = x .addresses ∙ (w .after n .log ∙ sym (x′ .addresses));
           cycles = x .cycles ∙ (cycles-alike (Same m m′) g s s′ w n runs ∙ sym (x′ .cycles));
