@@ -33,14 +33,18 @@ pub record SamePipeAnswer (m m′ : Memory) (y y′ : PipeAnswer) : Type 0 where
   pub cycles : y .cycles ≡ y′ .cycles
   pub memory : AtMost m m′ (y .memory) (y′ .memory)
 
--- #112 for the answers: one plain run on the first image stops, within the premise; then every run, of any budget and with any logs, gives the same
+-- every run, of any budget and with any logs, answers the same
+abbrev pub SameAnswers : Start → Memory → Type 0
+SameAnswers t m′ =
+    ((b : ℕ) (l : List ℕ) → SamePlainAnswer (t .memory) m′ (plainAnswered t b l) (plainAnswered (imaged t m′) b l))
+    × ((b : ℕ) (a y : List ℕ) → SamePipeAnswer (t .memory) m′ (pipeAnswered t b a y) (pipeAnswered (imaged t m′) b a y))
+    × ((b : ℕ) → SamePipeAnswer (t .memory) m′ (pipeUnlogged t b) (pipeUnlogged (imaged t m′) b))
+
+-- #112 for the answers: one plain run on the first image stops, within the premise
 abbrev pub AnswersPlayNoPart : (Plain → ℕ → Type 0) → Type 0
 AnswersPlayNoPart P =
     (t : Start) (m′ : Memory) → length (t .registers) ≡ 15 → DifferOnlyAt (P (plainFrom t)) (t .memory) m′
-    → (budget : ℕ) (log : List ℕ) → isBad (plainAnswered t budget log .machine .status) ≡ true → Premise (plainFrom t) budget
-    → ((b : ℕ) (l : List ℕ) → SamePlainAnswer (t .memory) m′ (plainAnswered t b l) (plainAnswered (imaged t m′) b l))
-    × ((b : ℕ) (a y : List ℕ) → SamePipeAnswer (t .memory) m′ (pipeAnswered t b a y) (pipeAnswered (imaged t m′) b a y))
-    × ((b : ℕ) → SamePipeAnswer (t .memory) m′ (pipeUnlogged t b) (pipeUnlogged (imaged t m′) b))
+    → (budget : ℕ) (log : List ℕ) → isBad (plainAnswered t budget log .machine .status) ≡ true → Premise (plainFrom t) budget → SameAnswers t m′
 
 -- a run that answers with a stop was not refused
 stopped-ran : (t : Start) (budget : ℕ) (log : List ℕ) → isBad (plainAnswered t budget log .machine .status) ≡ true → isStopped (steps (plainFrom t) budget) ≡ true
@@ -107,16 +111,21 @@ pub plain-answers : (t : Start) (m′ : Memory) → DifferOnlyAt (NoPart (plainF
     → (b : ℕ) (l : List ℕ) → SamePlainAnswer (t .memory) m′ (plainAnswered t b l) (plainAnswered (imaged t m′) b l)
 plain-answers t m′ d b l = plain-same t m′ (lent-so (t .memory) m′ d) b l (plain-part t m′ d b)
 
--- EACH RUN, whichever reading of a byte's part is taken
-in-answers : (P : Plain → ℕ → Type 0) → BytesThatPlayNoPart P → AnswersPlayNoPart P
-unfolding pipeRun pipeRunUnlogged
-in-answers P th t m′ l d budget log h u =
-    let x = th (chosen t) t m′ l d budget (stopped-ran t budget log h) u in
-    let rest = lent-so (t .memory) m′ d in (
-      λ b log. plain-same t m′ rest b log (x .0 b),
-      λ b a y. pipe-same t m′ rest (length a ∷ length y ∷ []) b a y (x .1 b),
-      λ b. pipe-same t m′ rest [] b [] [] (x .1 b),
-    )
+-- EACH RUN, where the plain engine stops within so many instructions, whichever reading of a byte's part is taken
+module _ (P : Plain → ℕ → Type 0) (th : BytesThatPlayNoPart P) where
+  pub runs-same : (t : Start) (m′ : Memory) → length (t .registers) ≡ 15 → DifferOnlyAt (P (plainFrom t)) (t .memory) m′
+      → (budget : ℕ) → isStopped (steps (plainFrom t) budget) ≡ true → Premise (plainFrom t) budget → SameAnswers t m′
+  unfolding pipeRun pipeRunUnlogged
+  runs-same t m′ l d budget h u =
+      let x = th (chosen t) t m′ l d budget h u in
+      let rest = lent-so (t .memory) m′ d in (
+        λ b log. plain-same t m′ rest b log (x .0 b),
+        λ b a y. pipe-same t m′ rest (length a ∷ length y ∷ []) b a y (x .1 b),
+        λ b. pipe-same t m′ rest [] b [] [] (x .1 b),
+      )
+
+  in-answers : AnswersPlayNoPart P
+  in-answers t m′ l d budget log h u = runs-same t m′ l d budget (stopped-ran t budget log h) u
 
 pub answers : AnswersPlayNoPart NoPart
 answers = in-answers NoPart no-part
