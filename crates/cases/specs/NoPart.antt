@@ -1,0 +1,63 @@
+-- Bytes that play no part (02, #112), at the host edge: the same answer, registers and result block, whatever the cycle budget.
+use Prim.Native.Nat.{ℕ}
+use mathlib.Core.Bool.{Bool, true, false, cond}
+use mathlib.Core.List.{List}
+use mathlib.Core.Path.{_≡_, refl, sym}
+use lib.Dec.{eqb}
+use lib.ListN.{length}
+use Rattle.clocked.specs.declared.Settings.{Settings}
+use Rattle.machine.specs.Memory.{lent}
+use Rattle.machine.specs.Plain.{isStopped, steps}
+use Rattle.clocked.specs.Prediction.{asIn01}
+use Rattle.clocked.specs.Premise.{Premise}
+use Rattle.clocked.specs.PipeRuns.{PipeAnswer}
+use Rattle.account.specs.Statement.{Start, plainFrom, pipedFrom}
+use Rattle.block.specs.Block.{wordsIn, codesFrom}
+use Rattle.replay_ends.specs.Ends.{edgeRefusal, resultWords}
+use Rattle.edge.specs.Edge.{Edge, edge, edgeDone, edgeRun, replayed}
+use Rattle.junk.specs.Statement.{DifferOnlyAt, AtMost, NoPart}
+use Rattle.junk.specs.Theorem.{no-part}
+use Rattle.junk.specs.Answers.{SamePipeAnswer, runs-same}
+
+-- two answers of the host edge: answer, registers and result block are the same, and memory differs at most where the images do
+pub record SameEdge (m m′ : List ℕ) (x x′ : Edge) : Type 0 where
+  pub answer : x .answer ≡ x′ .answer
+  pub registers : x .registers ≡ x′ .registers
+  pub result : x .result ≡ x′ .result
+  pub memory : AtMost (lent m) (lent m′) (lent (x .memory)) (lent (x′ .memory))
+
+-- the start that the lent bytes, the numbers and the settings say
+abbrev pub edgeStart : Settings → (memory registers : List ℕ) → (start codes : ℕ) → Start
+edgeStart s memory registers start codes =
+    record { settings = s; registers = wordsIn 15 registers 0; codes = codesFrom codes; address = start; memory = lent memory }
+
+-- THE HOST EDGE
+module _ (m m′ registers result : List ℕ) (start codes : ℕ) where
+  abbrev given : Start
+  given = edgeStart asIn01 m registers start codes
+
+  done-same : (o o′ : PipeAnswer) → SamePipeAnswer (lent m) (lent m′) o o′ → SameEdge m m′ (edgeDone o registers result) (edgeDone o′ registers result)
+  unfolding edgeDone resultWords
+  done-same o o′ h =
+      let k = h .pipeline in
+      record {
+        answer = refl;
+        registers = cc (k .registers);
+        result = cc (k .status, k .last, k .codes, k .retired, k .cycles);
+        memory = record { rest = refl; sizes = h .memory .sizes; only = h .memory .only };
+      }
+
+  -- the plain engine on the first image stops within n instructions, within the premise, and the images differ only at bytes that play no part in it
+  pub edge-no-part : DifferOnlyAt (NoPart (plainFrom given)) (lent m) (lent m′)
+      → (n : ℕ) → isStopped (steps (plainFrom given) n) ≡ true → Premise (plainFrom given) n
+      → (budget : ℕ) → SameEdge m m′ (replayed m registers result start codes budget) (replayed m′ registers result start codes budget)
+  unfolding replayed edgeRun wordsIn pipedFrom
+  edge-no-part d n h u budget = rw (sym (d .sizes)) (go (eqb refusal 0))
+    where
+      refusal : ℕ
+      refusal = edgeRefusal (length m) (length registers) (length result) start codes budget
+
+      go : (b : Bool) → SameEdge m m′ (cond b (edgeDone (edgeRun m registers start codes budget) registers result) (edge refusal m registers result))
+          (cond b (edgeDone (edgeRun m′ registers start codes budget) registers result) (edge refusal m′ registers result))
+      go true = done-same _ _ (runs-same NoPart no-part given (lent m′) refl d n h u .2 budget)
+      go false = record { answer = refl; registers = refl; result = refl; memory = record { rest = refl; sizes = d .sizes; only = λ x e. e } }
