@@ -1,21 +1,24 @@
--- Bytes that play no part (02, #112), at the host edge: the same answer, registers and result block, whatever the cycle budget.
+-- Bytes that play no part (02, #112), at the host edge: the same answer, registers and result block, whatever the cycle budget; and in the program's report.
 use Prim.Native.Nat.{ℕ}
 use mathlib.Core.Bool.{Bool, true, false, cond}
-use mathlib.Core.List.{List}
+use mathlib.Core.List.{List, []}
 use mathlib.Core.Path.{_≡_, refl, sym}
 use lib.Dec.{eqb}
-use lib.ListN.{length}
+use lib.ListN.{length, replicate}
 use Rattle.clocked.specs.declared.Settings.{Settings}
+use Rattle.clocked.specs.declared.Pipeline.{Pipeline}
 use Rattle.machine.specs.Memory.{lent}
 use Rattle.machine.specs.Plain.{isStopped, steps}
 use Rattle.clocked.specs.Prediction.{asIn01}
 use Rattle.clocked.specs.Premise.{Premise}
-use Rattle.clocked.specs.PipeRuns.{PipeAnswer}
+use Rattle.clocked.specs.PipeRuns.{PipeAnswer, pipeAnswer, pipeRunUnlogged}
 use Rattle.account.specs.Statement.{Start, plainFrom, pipedFrom}
 use Rattle.block.specs.Block.{wordsIn, codesFrom}
 use Rattle.replay_ends.specs.Ends.{edgeRefusal, resultWords}
 use Rattle.edge.specs.Edge.{Edge, edge, edgeDone, edgeRun, replayed}
-use Rattle.junk.specs.Statement.{DifferOnlyAt, AtMost, NoPart}
+use Rattle.report_lines.specs.Lines.{countLines}
+use Rattle.report.specs.Report.{endLines, report, imageRefused, imageStart, imageRun, reported}
+use Rattle.junk.specs.Statement.{DifferOnlyAt, AtMost, NoPart, SameRecord}
 use Rattle.junk.specs.Theorem.{no-part}
 use Rattle.junk.specs.Answers.{SamePipeAnswer, runs-same}
 
@@ -61,3 +64,26 @@ module _ (m m′ registers result : List ℕ) (start codes : ℕ) where
           (cond b (edgeDone (edgeRun m′ registers start codes budget) registers result) (edge refusal m′ registers result))
       go true = done-same _ _ (runs-same NoPart no-part given (lent m′) refl d n h u .2 budget)
       go false = record { answer = refl; registers = refl; result = refl; memory = record { rest = refl; sizes = d .sizes; only = λ x e. e } }
+
+-- THE PROGRAM: what it writes is the same
+abbrev pub imageFrom : List ℕ → Start
+imageFrom image =
+    record { settings = asIn01; registers = replicate 15 0; codes = record { zf = true; sf = false; of = false }; address = 0; memory = lent image }
+
+lines-same : (x y : ℕ) (k k′ : Pipeline) → x ≡ y → SameRecord k k′ → report x k ≡ report y k′
+unfolding report endLines countLines
+lines-same x y k k′ e h = cc (h .status, h .last, h .codes, h .retired, h .cycles, h .kinds, h .registers)
+
+pub report-no-part : (m m′ : List ℕ) → DifferOnlyAt (NoPart (plainFrom (imageFrom m))) (lent m) (lent m′)
+    → (n : ℕ) → isStopped (steps (plainFrom (imageFrom m)) n) ≡ true → Premise (plainFrom (imageFrom m)) n → reported m ≡ reported m′
+unfolding reported imageRun imageStart pipedFrom
+report-no-part m m′ d n h u = rw (sym (d .sizes)) (go (imageRefused (length m)))
+  where
+    answer : Bool → List ℕ → PipeAnswer
+    answer b image = cond b (pipeAnswer 1 imageStart (lent image) [] []) (pipeRunUnlogged imageStart (lent image) 4000)
+
+    go : (b : Bool) → report (answer b m .number) (answer b m .pipeline) ≡ report (answer b m′ .number) (answer b m′ .pipeline)
+    go true = refl
+    go false =
+        let x = runs-same NoPart no-part (imageFrom m) (lent m′) refl d n h u .2 4000 in
+        lines-same _ _ _ _ (x .number) (x .pipeline)
