@@ -26,7 +26,7 @@ fn count_of(whole: bool, size: u64) -> u64
 
 // The lines from a start up to an end, not itself written.
 pub fn put_listing(buffer: &mut [u8], memory: &[u8], start: u64, end: u64) -> usize
-    requires { ⌜ (end ≤ length (now memory)) × (length (now memory) ≤ 4096) ⌝ }
+    requires { ⌜ (end ≤ length (now memory)) × (length (now memory) ≤ 65536) ⌝ }
     ensures { λ r. ⌜ Put (listingOf (lent (now (memory .entry))) start end) 0 (now (buffer .entry)) r (now (buffer .exit)) ⌝ }
 {
     let mut next: usize = 0;
