@@ -13,3 +13,4 @@ pub mod Single
 pub mod Wrong
 pub mod Edge
 pub mod Days
+pub mod Written
