@@ -23,6 +23,7 @@ pub mod report;
 pub mod stages;
 pub mod table;
 pub mod word;
+pub mod writing;
 
 pub use machine::{Refusal, Registers, Status, REGISTER_COUNT, RSP};
 pub use replay::replay;
