@@ -3,6 +3,7 @@
 use crate::bench::Once;
 use crate::inspect::Asked;
 use crate::judge;
+use crate::list;
 use crate::listing;
 use crate::Fault;
 use desk::second::machine::PROGRAM_LIMIT;
@@ -16,6 +17,7 @@ pub enum Command {
     Help,
     Replay(Asked),
     Read(listing::Asked),
+    List(list::Asked),
     Peaks(judge::Asked),
     Bench,
     Instructions,
@@ -29,15 +31,18 @@ pub fn read(words: Vec<OsString>) -> Result<Command, Fault> {
         return Ok(Command::Help);
     }
     let Some((first, rest)) = words.split_first() else {
-        return Err(usage("a command is missing: replay, read, peaks or bench"));
+        return Err(usage(
+            "a command is missing: replay, read, list, peaks or bench",
+        ));
     };
     match first.to_str() {
         Some("replay") => replay(rest).map(Command::Replay),
         Some("read") => read_listing(rest).map(Command::Read),
+        Some("list") => list(rest).map(Command::List),
         Some("peaks") => peaks(rest).map(Command::Peaks),
         Some("bench") => bench(rest),
         _ => Err(usage(format!(
-            "{} is no command; there are replay, read, peaks and bench",
+            "{} is no command; there are replay, read, list, peaks and bench",
             shown(first)
         ))),
     }
@@ -48,6 +53,13 @@ fn replay(words: &[OsString]) -> Result<Asked, Fault> {
     let mut options = Options::default();
     options.take("replay", words)?;
     options.replay()
+}
+
+/// The words after `desk list`.
+fn list(words: &[OsString]) -> Result<list::Asked, Fault> {
+    let mut options = Options::default();
+    options.take("list", words)?;
+    options.list()
 }
 
 /// The words after `desk peaks`.
@@ -95,7 +107,7 @@ fn split(word: &str) -> (&str, Option<OsString>) {
     }
 }
 
-/// The words of one `desk replay` or `desk peaks`, by their place.
+/// The words of one `desk replay`, `desk list` or `desk peaks`, by their place.
 #[derive(Default)]
 struct Options {
     image: Option<OsString>,
@@ -108,6 +120,8 @@ struct Options {
     table: Option<OsString>,
     length: Option<OsString>,
     filed: Option<OsString>,
+    from: Option<OsString>,
+    to: Option<OsString>,
     second: Option<()>,
 }
 
@@ -146,6 +160,8 @@ impl Options {
             ("replay", "--codes") => Ok(&mut self.codes),
             ("replay", "--budget") => Ok(&mut self.budget),
             ("replay", "--registers") => Ok(&mut self.registers),
+            ("list", "--from") => Ok(&mut self.from),
+            ("list", "--to") => Ok(&mut self.to),
             ("peaks", "--table") => Ok(&mut self.table),
             ("peaks", "--length") => Ok(&mut self.length),
             ("peaks", "--filed") => Ok(&mut self.filed),
@@ -181,6 +197,17 @@ impl Options {
             table: wanted("--table", self.table)?,
             length: wanted("--length", self.length)?,
             filed: wanted("--filed", self.filed)?,
+            second: self.second.is_some(),
+        })
+    }
+
+    /// The listing that is asked for.
+    fn list(mut self) -> Result<list::Asked, Fault> {
+        Ok(list::Asked {
+            image: self.image("list")?,
+            listing: self.listing()?,
+            from: number_or("--from", self.from, 0)?,
+            to: self.to.map(|word| number("--to", &word)).transpose()?,
             second: self.second.is_some(),
         })
     }

@@ -1,5 +1,6 @@
 //! `desk replay`: reads the files, replays, and tells what came of it.
 
+use crate::list;
 use crate::listing;
 use crate::report::{self, Before};
 use crate::Fault;
@@ -54,7 +55,8 @@ pub fn replay(asked: &Asked) -> Result<(String, u8), Fault> {
         memory: &image.bytes,
         budget,
     };
-    let text = report::text(&outcome, &before, &memory, &registers);
+    let at_last = list::instruction(list::writer(asked.second), &memory, outcome.last);
+    let text = report::text(&outcome, &at_last, &before, &memory, &registers);
     Ok((text, report::exit_status(&outcome)))
 }
 

@@ -20,12 +20,19 @@ pub fn exit_status(outcome: &Outcome) -> u8 {
     }
 }
 
-/// The outcome, the registers that are not 0, and the words that changed.
-pub fn text(outcome: &Outcome, before: &Before, memory: &[u8], registers: &[u8]) -> String {
+/// The outcome with the instruction at its last address, the registers that
+/// are not 0, and the words that changed.
+pub fn text(
+    outcome: &Outcome,
+    at_last: &str,
+    before: &Before,
+    memory: &[u8],
+    registers: &[u8],
+) -> String {
     let codes = outcome.codes;
     let (zf, sf, of) = (codes >> 2 & 1, codes >> 1 & 1, codes & 1);
     let mut text = format!("status   {}\n", status(outcome.status, before.budget));
-    text += &format!("last     {}\n", address(outcome.last));
+    text += &format!("last     {}: {at_last}\n", address(outcome.last));
     text += &format!("codes    {codes} (ZF {zf}, SF {sf}, OF {of})\n");
     text += &format!("retired  {}\n", outcome.retired);
     text += &format!("cycles   {}\n", outcome.cycles);
