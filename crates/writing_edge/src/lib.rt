@@ -57,13 +57,13 @@ fn range_refused(size: usize, start: u64, end: u64) -> bool
 }
 
 // The lowest refusal that applies before the length is known, or 0.
-fn list_refusal(size: usize, told: usize, start: u64, end: u64) -> u64
-    ensures { λ r. ⌜ r ≡ listRefusal size told start end ⌝ }
+fn list_refusal(size: usize, block: usize, start: u64, end: u64) -> u64
+    ensures { λ r. ⌜ r ≡ listRefusal size block start end ⌝ }
 {
     if answers::size_refused(size) {
         return 1;
     }
-    if told != 8 {
+    if block != 8 {
         return 4;
     }
     if range_refused(size, start, end) {
