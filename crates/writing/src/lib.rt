@@ -8,8 +8,8 @@ mod words;
 use crate::lines::put_line;
 use crate::reaching::crosses;
 use crate::reaching::size_at;
+use crate::reaching::starts;
 use crate::reaching::whole;
-use fetching::instruction_at;
 ghost use Prim.Native.Nat.{_≤_};
 ghost use lib.ListN.{length};
 ghost use mathlib.Core.Bool.{cond};
@@ -33,13 +33,12 @@ pub fn put_listing(buffer: &mut [u8], memory: &[u8], start: u64, end: u64) -> us
     let mut at = start;
     let mut cut = false;
     while at < end {
-        let i = instruction_at(memory, at);
-        let status = i.status;
         let size = size_at(memory, at);
-        let one = whole(memory, status, size, at, end, cut);
+        let started = starts(memory, at, size);
+        let one = whole(memory, started, size, at, end, cut);
         let count = count_of(one, size);
-        next = put_line(buffer, next, memory, at, count, one, i);
-        cut = crosses(memory, status, size, at, end, cut);
+        next = put_line(buffer, next, memory, at, count, one);
+        cut = crosses(memory, started, size, at, end, cut);
         at += count;
     }
     next
