@@ -7,6 +7,9 @@ use std::path::Path;
 /// Where the repository keeps the archive, from this package on.
 const ARCHIVE: &str = "../target/staticlib/libedge.a";
 
+/// Functions that not every archive has, and what is set where one has it.
+const FUNCTIONS: [(&str, &str); 1] = [("y86_replay_set", "edge_set")];
+
 fn main() {
     let package = std::env::var_os("CARGO_MANIFEST_DIR").expect("cargo names the package");
     let archive = Path::new(&package).join(ARCHIVE);
@@ -24,6 +27,19 @@ fn main() {
     if folder.join("libtrial.a").is_file() {
         println!("cargo::rustc-cfg=trial_archive");
     }
+    let bytes = std::fs::read(&archive).expect("an archive that can be read");
+    for (function, set) in FUNCTIONS {
+        println!("cargo::rustc-check-cfg=cfg({set})");
+        if has_function(&bytes, function) {
+            println!("cargo::rustc-cfg={set}");
+        }
+    }
     println!("cargo::rustc-link-search=native={}", folder.display());
     println!("cargo::rustc-link-lib=static=edge");
+}
+
+/// Whether an archive names a function, between two bytes that are 0.
+fn has_function(archive: &[u8], name: &str) -> bool {
+    let named = [b"\0", name.as_bytes(), b"\0"].concat();
+    archive.windows(named.len()).any(|part| part == named)
 }

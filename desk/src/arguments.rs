@@ -5,6 +5,7 @@ use crate::inspect::Asked;
 use crate::judge;
 use crate::list;
 use crate::listing;
+use crate::replaying::Given;
 use crate::Fault;
 use desk::second::machine::PROGRAM_LIMIT;
 use std::ffi::{OsStr, OsString};
@@ -219,9 +220,11 @@ impl Options {
             image: self.image("replay")?,
             listing: self.listing()?,
             registers: self.registers.map(Into::into),
-            start: number_or("--start", self.start, 0)?,
-            codes: number_or("--codes", self.codes, 4)?,
-            budget: number_or("--budget", self.budget, 4_000)?,
+            given: Given {
+                start: number_or("--start", self.start, 0)?,
+                codes: number_or("--codes", self.codes, 4)?,
+                budget: number_or("--budget", self.budget, 4_000)?,
+            },
             second: self.second.is_some(),
         })
     }

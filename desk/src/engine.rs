@@ -1,6 +1,7 @@
 //! The product, called through its host edge.
 
 use crate::second::encoding::Asked;
+use crate::second::replay::{Chosen, FULL_BYTES, RESULT_BYTES};
 
 // Nothing checks these declarations against the Rattle source: they are written
 // after the functions of crates/edge/src/ by hand, and the two change together.
@@ -16,6 +17,25 @@ extern "C" {
         start: u64,
         codes: u64,
         budget: u64,
+    ) -> u64;
+
+    // Where the archive has it, which the build looks for (build.rs).
+    #[cfg(edge_set)]
+    fn y86_replay_set(
+        memory: *mut u8,
+        memory_length: usize,
+        registers: *mut u8,
+        registers_length: usize,
+        result: *mut u8,
+        result_length: usize,
+        start: u64,
+        codes: u64,
+        budget: u64,
+        rule: u64,
+        late: u64,
+        windowed: u64,
+        first: u64,
+        end: u64,
     ) -> u64;
 
     fn y86_read_listing(
@@ -91,6 +111,44 @@ pub fn replay(
         )
     }
 }
+
+/// The same with settings and the full result block of 88 bytes.
+#[cfg(edge_set)]
+pub fn replay_set(
+    memory: &mut [u8],
+    registers: &mut [u8],
+    result: &mut [u8],
+    start: u64,
+    codes: u64,
+    budget: u64,
+    chosen: Chosen,
+) -> u64 {
+    // SAFETY: as above.
+    unsafe {
+        y86_replay_set(
+            memory.as_mut_ptr(),
+            memory.len(),
+            registers.as_mut_ptr(),
+            registers.len(),
+            result.as_mut_ptr(),
+            result.len(),
+            start,
+            codes,
+            budget,
+            chosen.rule,
+            chosen.late,
+            chosen.windowed,
+            chosen.first,
+            chosen.end,
+        )
+    }
+}
+
+/// The product's replay with settings, where the archive has it.
+#[cfg(edge_set)]
+pub const REPLAY_SET: Option<ReplaySet> = Some(replay_set);
+#[cfg(not(edge_set))]
+pub const REPLAY_SET: Option<ReplaySet> = None;
 
 /// Memory becomes the image of a listing, and the answer is 0; or a refusal by
 /// its number, where 9 is a faulty line, whose number and kind are left in the
@@ -195,6 +253,10 @@ pub fn listing(write: WriteListing, memory: &[u8], start: u64, end: u64) -> Resu
 /// A replay through the edge, or one that takes and leaves the same.
 pub type Replay = fn(&mut [u8], &mut [u8], &mut [u8], u64, u64, u64) -> u64;
 
+/// A replay with settings through the edge, or one that takes and leaves the
+/// same.
+pub type ReplaySet = fn(&mut [u8], &mut [u8], &mut [u8], u64, u64, u64, Chosen) -> u64;
+
 /// What a replay answers: the five result words, or the number of the refusal.
 pub type Answer = Result<Outcome, u64>;
 
@@ -221,16 +283,60 @@ pub fn outcome(
     codes: u64,
     budget: u64,
 ) -> Answer {
-    let mut result = [0; 40];
+    let mut result = [0; RESULT_BYTES];
     match replay(memory, registers, &mut result, start, codes, budget) {
         0 => Ok(Outcome::read(&result)),
         refusal => Err(refusal),
     }
 }
 
+/// The eleven words of the full result block.
+#[derive(Clone, Copy, Debug, PartialEq, Eq)]
+pub struct FullOutcome {
+    pub outcome: Outcome,
+    /// The cycles by kind: load-use, mispredict, return, patch.
+    pub kinds: [u64; 4],
+    /// Why a fetch failed (#107): 0 none, 1 first byte missing, 2 code, 3
+    /// function, 4 later byte missing, 5 register.
+    pub reason: u64,
+    /// The address of the byte at fault, 0 where there is none.
+    pub fault_address: u64,
+}
+
+/// A replay with settings and a result block of its own. The final registers
+/// and memory are left in the lent bytes.
+pub fn full_outcome(
+    replay: ReplaySet,
+    memory: &mut [u8],
+    registers: &mut [u8],
+    (start, codes, budget): (u64, u64, u64),
+    chosen: Chosen,
+) -> Result<FullOutcome, u64> {
+    let mut result = [0; FULL_BYTES];
+    match replay(memory, registers, &mut result, start, codes, budget, chosen) {
+        0 => Ok(FullOutcome::read(&result)),
+        refusal => Err(refusal),
+    }
+}
+
+impl FullOutcome {
+    /// The words of a full result block.
+    pub fn read(block: &[u8; FULL_BYTES]) -> FullOutcome {
+        let [.., load_use, mispredict, returns, patch, reason, fault_address]: [u64; 11] =
+            words(block);
+        let short = block.first_chunk().expect("the first five words");
+        FullOutcome {
+            outcome: Outcome::read(short),
+            kinds: [load_use, mispredict, returns, patch],
+            reason,
+            fault_address,
+        }
+    }
+}
+
 impl Outcome {
     /// The words of a result block.
-    pub fn read(block: &[u8; 40]) -> Outcome {
+    pub fn read(block: &[u8; RESULT_BYTES]) -> Outcome {
         let [status, last, codes, retired, cycles] = words(block);
         Outcome {
             status,

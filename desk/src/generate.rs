@@ -16,7 +16,7 @@ pub use ranges::{Range, Ranges};
 pub use records::Record;
 
 use crate::second::machine::{CYCLE_LIMIT, MEMORY_LIMIT, PROGRAM_LIMIT};
-use crate::second::replay::{REGISTER_BYTES, RESULT_BYTES};
+use crate::second::replay::{Chosen, FULL_BYTES, REGISTER_BYTES, RESULT_BYTES};
 
 /// What a case is made to try.
 #[derive(Clone, Copy, Debug, PartialEq, Eq)]
@@ -143,6 +143,38 @@ impl Generator {
             codes: self.random.below(8),
             budget: self.budget(),
         }
+    }
+
+    /// The next case, with a full result block and settings as numbers; one in
+    /// eight of the settings is refused, and as many blocks as of short ones.
+    pub fn set_case(&mut self) -> (Case, Chosen) {
+        let mut case = self.case();
+        let right = case.result.len() == RESULT_BYTES;
+        case.result = match right {
+            true => self.random.bytes(FULL_BYTES),
+            false => wrong_length(&mut self.random, FULL_BYTES),
+        };
+        let chosen = self.chosen();
+        (case, chosen)
+    }
+
+    /// Settings as numbers.
+    fn chosen(&mut self) -> Chosen {
+        let random = &mut self.random;
+        let (rule, late) = (random.below(3), random.below(2));
+        let mut chosen = Chosen {
+            rule,
+            late,
+            ..Chosen::default()
+        };
+        if random.chance(1, 8) {
+            let over = random.pick(&[3, 4, 255, 256, 1 << 32, u64::MAX]);
+            match random.below(2) {
+                0 => chosen.rule = over,
+                _ => chosen.late = over - 1,
+            }
+        }
+        chosen
     }
 
     /// A memory size. One in eight is the next of a sweep over all sizes up to

@@ -2,10 +2,9 @@
 
 use crate::list;
 use crate::listing;
+use crate::replaying::{self, Given};
 use crate::report::{self, Before};
 use crate::Fault;
-use desk::engine::{self, Replay};
-use desk::second;
 use desk::second::machine::{CYCLE_LIMIT, MEMORY_LIMIT};
 use desk::second::replay::REGISTER_BYTES;
 use std::fs::File;
@@ -18,9 +17,7 @@ pub struct Asked {
     /// Where the image is a listing: the size of memory.
     pub listing: Option<u64>,
     pub registers: Option<PathBuf>,
-    pub start: u64,
-    pub codes: u64,
-    pub budget: u64,
+    pub given: Given,
     pub second: bool,
 }
 
@@ -36,33 +33,28 @@ pub struct Source {
 /// The text to show for a replay, and the exit status.
 pub fn replay(asked: &Asked) -> Result<(String, u8), Fault> {
     let image = Source::image(&asked.image, asked.listing)?;
-    let given = match &asked.registers {
+    let file = match &asked.registers {
         Some(path) => Source::read(path, REGISTER_BYTES)?,
         None => Source::zeros(REGISTER_BYTES),
     };
-    let engine: Replay = match asked.second {
-        true => second::replay,
-        false => engine::replay,
-    };
-    let (mut memory, mut registers) = (image.bytes.clone(), given.bytes.clone());
-    let (start, codes, budget) = (asked.start, asked.codes, asked.budget);
-    let answer = engine::outcome(engine, &mut memory, &mut registers, start, codes, budget);
-    let outcome = answer.map_err(|number| {
-        let why = refusal(number, asked, &image, &given);
+    let (mut memory, mut registers) = (image.bytes.clone(), file.bytes.clone());
+    let answer = replaying::replay(asked.second, &mut memory, &mut registers, asked.given);
+    let told = answer.map_err(|number| {
+        let why = refusal(number, &asked.given, &image, &file);
         Fault::new(Fault::REFUSED, format!("refused ({number}): {why}"))
     })?;
     let before = Before {
         memory: &image.bytes,
-        budget,
+        budget: asked.given.budget,
     };
-    let at_last = list::instruction(list::writer(asked.second), &memory, outcome.last);
-    let text = report::text(&outcome, &at_last, &before, &memory, &registers);
-    Ok((text, report::exit_status(&outcome)))
+    let at_last = list::instruction(list::writer(asked.second), &memory, told.outcome.last);
+    let text = report::text(&told, &at_last, &before, &memory, &registers);
+    Ok((text, report::exit_status(&told.outcome)))
 }
 
 /// What a refusal means, in words. Number 4 is not among them: the result
 /// block is this program's own, and has the right length.
-fn refusal(number: u64, asked: &Asked, image: &Source, registers: &Source) -> String {
+fn refusal(number: u64, given: &Given, image: &Source, registers: &Source) -> String {
     match number {
         1 => format!("{}; an image has 1 to 65,536", image.says()),
         2 => format!(
@@ -71,15 +63,15 @@ fn refusal(number: u64, asked: &Asked, image: &Source, registers: &Source) -> St
         ),
         3 => format!(
             "the budget is {}; it has to be 1 to {CYCLE_LIMIT} cycles",
-            asked.budget
+            given.budget
         ),
         5 => format!(
             "the codes are {}; they have to be 0 to 7, as 4ZF + 2SF + OF",
-            asked.codes
+            given.codes
         ),
         6 => format!(
             "the start address is {}; it has to be below {}, the bytes of the image",
-            asked.start,
+            given.start,
             image.bytes.len()
         ),
         _ => "the engine does not take this".into(),

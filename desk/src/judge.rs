@@ -1,9 +1,10 @@
 //! `desk peaks`: replays an image, and holds the filed peak against the raw one.
 
 use crate::inspect::Source;
+use crate::replaying::{self, Given};
 use crate::report;
 use crate::Fault;
-use desk::engine::{self, Replay};
+use desk::engine;
 use desk::second;
 use desk::second::peaks::LONGEST;
 use std::path::PathBuf;
@@ -19,6 +20,13 @@ pub struct Asked {
     pub second: bool,
 }
 
+/// What the program y86run gives its replay.
+const AS_Y86RUN: Given = Given {
+    start: 0,
+    codes: 4,
+    budget: 4_000,
+};
+
 /// The result words: good samples, peak, place, failed, sum, the mean's bits
 /// and the comparison.
 type Words = [u64; 7];
@@ -26,17 +34,13 @@ type Words = [u64; 7];
 /// The text to show for a day, and the exit status.
 pub fn day(asked: &Asked) -> Result<(String, u8), Fault> {
     let image = Source::image(&asked.image, asked.listing)?;
-    let replay: Replay = match asked.second {
-        true => second::replay,
-        false => engine::replay,
-    };
     let (mut memory, mut registers) = (image.bytes.clone(), [0; 120]);
-    let outcome = engine::outcome(replay, &mut memory, &mut registers, 0, 4, 4_000)
+    let told = replaying::replay(asked.second, &mut memory, &mut registers, AS_Y86RUN)
         .map_err(|_| refused(5, format!("{}; an image has 1 to 65,536", image.says())))?;
     let words =
         judged(asked, &memory).map_err(|number| refused(number, why(number, asked, &memory)))?;
-    let status = report::status(outcome.status, 4_000);
-    Ok((text(&words, asked, &memory, &status), exit_status(&words)))
+    let ended = report::ending(&told, AS_Y86RUN.budget, &memory);
+    Ok((text(&words, asked, &memory, &ended), exit_status(&words)))
 }
 
 /// The day by the exported function, or by the second program.
@@ -88,7 +92,7 @@ fn exit_status(words: &Words) -> u8 {
     }
 }
 
-fn text(words: &Words, asked: &Asked, memory: &[u8], status: &str) -> String {
+fn text(words: &Words, asked: &Asked, memory: &[u8], ended: &str) -> String {
     let [good, peak, place, failed, sum, bits, comparison] = *words;
     let filed = second::word::load(memory, asked.filed).expect("it was inside");
     let verdict = match comparison {
@@ -104,7 +108,7 @@ fn text(words: &Words, asked: &Asked, memory: &[u8], status: &str) -> String {
         4 => format!("the filed peak {filed} cannot be compared: it is not below 2^32"),
         _ => "no sample is good: there is no raw peak to compare with".into(),
     };
-    let mut text = format!("status   {status}\nverdict  {verdict}\n");
+    let mut text = format!("{ended}verdict  {verdict}\n");
     if good > 0 {
         text += &format!("peak     {peak}, first at place {place} of the table\n");
         text += &format!("mean     {}\n", f64::from_bits(bits));

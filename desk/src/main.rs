@@ -6,6 +6,7 @@ mod inspect;
 mod judge;
 mod list;
 mod listing;
+mod replaying;
 mod report;
 
 use arguments::Command;
@@ -53,11 +54,12 @@ Numbers are decimal, or hex after 0x. An option that is not given has the value
 in brackets, as in the program y86run. No file is changed but the one that read
 writes, and that only where the whole listing is right.
 
-What is shown: status, last address with the instruction that stands there at
-the end, codes, instructions retired, cycles, the registers that are not 0, and
-the words that changed in memory (8 bytes each from address 0 on, least byte
-first; the last has what is left). Where the budget was spent, instructions are
-on their way: memory and codes can be ahead of the registers.
+What is shown: status and, where a fetch failed and the engine tells why, which
+byte was at fault; last address with the instruction that stands there at the
+end, codes, instructions retired, cycles, the registers that are not 0, and the
+words that changed in memory (8 bytes each from address 0 on, least byte first;
+the last has what is left). Where the budget was spent, instructions are on
+their way: memory and codes can be ahead of the registers.
 
 options of list:
   --from A           the first address of the listing (0)

@@ -1,8 +1,11 @@
 //! The text that `desk replay` shows for an outcome.
 
+use crate::replaying::Told;
 use desk::engine::Outcome;
 use desk::second::machine::REGISTER_NAMES;
 use desk::second::replay::read_registers;
+use desk::second::table::row_of;
+use desk::second::{Reason, Status};
 
 /// What stood before the replay.
 pub struct Before<'a> {
@@ -23,15 +26,16 @@ pub fn exit_status(outcome: &Outcome) -> u8 {
 /// The outcome with the instruction at its last address, the registers that
 /// are not 0, and the words that changed.
 pub fn text(
-    outcome: &Outcome,
+    told: &Told,
     at_last: &str,
     before: &Before,
     memory: &[u8],
     registers: &[u8],
 ) -> String {
+    let outcome = &told.outcome;
     let codes = outcome.codes;
     let (zf, sf, of) = (codes >> 2 & 1, codes >> 1 & 1, codes & 1);
-    let mut text = format!("status   {}\n", status(outcome.status, before.budget));
+    let mut text = ending(told, before.budget, memory);
     text += &format!("last     {}: {at_last}\n", address(outcome.last));
     text += &format!("codes    {codes} (ZF {zf}, SF {sf}, OF {of})\n");
     text += &format!("retired  {}\n", outcome.retired);
@@ -41,8 +45,62 @@ pub fn text(
     text
 }
 
+/// How a replay ended: the status and, where it was told and there is one, the
+/// reason.
+pub fn ending(told: &Told, budget: u64, memory: &[u8]) -> String {
+    let outcome = &told.outcome;
+    let mut text = format!("status   {}\n", status(outcome.status, budget));
+    let reason = told.fault.and_then(|(number, at)| {
+        let reason = Reason::from_number(number)?;
+        why(reason, at, memory).or_else(|| access(outcome))
+    });
+    if let Some(reason) = reason {
+        text += &format!("reason   {reason}\n");
+    }
+    text
+}
+
+/// Why a fetch failed, in words, with the address of the byte at fault; none
+/// where none failed. Memory is the final one.
+fn why(reason: Reason, at: u64, memory: &[u8]) -> Option<String> {
+    let found = usize::try_from(at).ok().and_then(|at| memory.get(at));
+    let byte = found.copied().unwrap_or(0);
+    let (code, function) = (byte >> 4, byte & 15);
+    let known = row_of(code).functions;
+    // A store may have changed the byte after it was fetched.
+    let stands = match reason {
+        Reason::Code => known == 0,
+        Reason::Function => known > 0 && function >= known,
+        _ => true,
+    };
+    let words = match reason {
+        Reason::None => return None,
+        Reason::FirstMissing => format!("the byte at {at:#x} is not in memory"),
+        Reason::Code if stands => format!("{byte:#04x} at {at:#x} is no instruction code"),
+        Reason::Code => format!("the byte at {at:#x} was no instruction code"),
+        Reason::Function if stands => {
+            format!("{byte:#04x} at {at:#x}: code {code:x} has no function {function:x}")
+        }
+        Reason::Function => format!("the byte at {at:#x} had a function that its code has not"),
+        Reason::LaterMissing => {
+            format!("the instruction goes on to the byte at {at:#x}, which is not in memory")
+        }
+        Reason::Register => format!("the register byte at {at:#x} names register 15"),
+    };
+    Some(words)
+}
+
+/// The words for ADR without a failed fetch.
+fn access(outcome: &Outcome) -> Option<String> {
+    let words = || {
+        let last = outcome.last;
+        format!("the instruction at {last:#x} reads or writes a word that is not in memory")
+    };
+    (outcome.status == Status::Adr.number()).then(words)
+}
+
 /// A status in words.
-pub fn status(number: u64, budget: u64) -> String {
+fn status(number: u64, budget: u64) -> String {
     match number {
         1 => format!("AOK (1): the budget of {budget} cycles was spent before a stop"),
         2 => "HLT (2): the image halted".into(),

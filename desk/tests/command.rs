@@ -97,9 +97,67 @@ fn the_exit_status_tells_the_outcome() {
         assert_eq!((code, message.as_str()), (status, ""), "{name}");
         assert!(output.contains(says), "{output}");
         assert!(output.contains(&format!("last     {last}\n")), "{output}");
-        let second = said(&["replay", &path, "--second"]);
-        assert_eq!(second, (code, output.clone(), message), "{name}");
+        let (second, opinion, _) = said(&["replay", &path, "--second"]);
+        assert_eq!(second, status, "{name}, a second opinion");
+        assert!(opinion.contains(&format!("last     {last}\n")), "{opinion}");
         assert!(output.contains("registers: all 0\nmemory: as it was\n"));
+    }
+}
+
+/// #107: which byte was at fault, in words, by every engine that tells it.
+#[test]
+fn a_failed_fetch_is_told_in_words() {
+    let cases = [
+        ("first", "10", "the byte at 0x1 is not in memory"),
+        ("code", "10d0", "0xd0 at 0x1 is no instruction code"),
+        ("function", "64", "0x64 at 0x0: code 6 has no function 4"),
+        (
+            "later",
+            "1030f1",
+            "goes on to the byte at 0x3, which is not in memory",
+        ),
+        (
+            "register",
+            "60f0",
+            "the register byte at 0x1 names register 15",
+        ),
+        (
+            "access",
+            "10400001000000000000ff",
+            "the instruction at 0x1 reads or writes a word that is not in memory",
+        ),
+        (
+            // The store at 0 writes a nop over the code d0 behind it.
+            "changed",
+            "40010a00000000000000d0",
+            "the byte at 0xa was no instruction code",
+        ),
+    ];
+    let mut block = [0; 120];
+    block[..8].fill(0x10);
+    let registers = file("nops", &block);
+    for (name, image, says) in cases {
+        let bytes = [
+            from_hex(image),
+            vec![0; if name == "changed" { 9 } else { 0 }],
+        ]
+        .concat();
+        let path = file(&format!("fault_{name}"), &bytes);
+        let words = ["replay", &path, "--registers", &registers];
+        let second = said(&[&words[..], &["--second"]].concat());
+        let line = second.1.lines().nth(1).unwrap_or("");
+        assert!(
+            line.starts_with("reason   ") && line.ends_with(says),
+            "{line}"
+        );
+        if desk::engine::REPLAY_SET.is_some() {
+            assert_eq!(said(&words), second);
+        }
+    }
+    for (name, image) in [("halted", "00"), ("running", "700000000000000000")] {
+        let path = file(&format!("fault_{name}"), &from_hex(image));
+        let (_, output, _) = said(&["replay", &path, "--second"]);
+        assert!(!output.contains("reason"), "{output}");
     }
 }
 

@@ -26,6 +26,8 @@ struct Seen {
     retired: u64,
     charged: [u64; 3],
     stops: [usize; 5],
+    /// Stops by the reason of a failed fetch (#107), 0 for none.
+    faults: [usize; 6],
     added: Added,
     guessed: Guessed,
     /// Stores and calls behind loads of a register of theirs, charged or not.
@@ -190,6 +192,7 @@ fn compare_kind(kind: Kind, settings: Settings) {
             .all(|count| *count > 20));
     }
     if kind == Kind::Charges {
+        assert!(seen.faults.iter().all(|stops| *stops > 20));
         assert!(seen.guessed.is_full(settings), "{:?}", seen.guessed);
         check_stores(settings, &seen.stores);
     }
@@ -220,6 +223,7 @@ fn compare(case: &Case, settings: Settings, seen: &mut Seen) {
     if over {
         compare_end(&machine, &memory, &whole, &account);
         seen.stops[machine.status.number() as usize] += 1;
+        seen.faults[machine.fault.reason.number() as usize] += 1;
     }
     seen.whole += usize::from(over);
     seen.cut += usize::from(!over);
@@ -254,6 +258,7 @@ fn compare_clock(account: &Account, machine: &Pipeline, clock: u64, plain: &mut 
     assert_eq!(machine.registers, plain.machine.registers);
     assert_eq!(machine.status, plain.machine.status);
     assert_eq!(machine.last, plain.machine.last);
+    assert_eq!(machine.fault, plain.machine.fault);
     let kinds = Kinds {
         load_use: account.charged(Charge::LoadUse, due),
         mispredict: account.charged(Charge::Mispredict, due),
@@ -296,6 +301,7 @@ fn compare_end(machine: &Pipeline, memory: &[u8], plain: &Follower, account: &Ac
     assert_eq!(machine.codes, plain.machine.codes);
     assert_eq!(machine.status, plain.machine.status);
     assert_eq!(machine.last, plain.machine.last);
+    assert_eq!(machine.fault, plain.machine.fault);
     assert_eq!(machine.retired, account.performed.len() as u64);
 }
 

@@ -8,10 +8,11 @@ use common::{
 use desk::programs::{figure_4_8, from_hex, listing_001, listing_004, stretched_004};
 use desk::second::account::Account;
 use desk::second::arithmetic::operate;
+use desk::second::fault::Fault;
 use desk::second::machine::Registers;
 use desk::second::pipeline::{Logs, Settings};
 use desk::second::word;
-use desk::second::{y86run, Status, RSP};
+use desk::second::{y86run, Reason, Status, RSP};
 
 const LEAST: u64 = 1 << 63;
 
@@ -41,6 +42,63 @@ fn p1_to_p6_stop_as_stated() {
         );
         assert_eq!(plain.address, last, "the program address stays");
     }
+}
+
+/// #107: image, reason and byte at fault, by both engines.
+#[test]
+fn a_failed_fetch_says_why() {
+    let cases = [
+        ("10", Reason::FirstMissing, 1),
+        ("70ffffffffffffffff", Reason::FirstMissing, u64::MAX),
+        ("d0", Reason::Code, 0),
+        ("10ff", Reason::Code, 1),
+        ("64", Reason::Function, 0),
+        ("1001", Reason::Function, 1),
+        ("c1", Reason::Function, 0),
+        ("60", Reason::LaterMissing, 1),
+        ("1030f0", Reason::LaterMissing, 3),
+        // The register is looked at last, and the function before what is missing.
+        ("30ff", Reason::LaterMissing, 2),
+        ("3f", Reason::Function, 0),
+        ("1060f0", Reason::Register, 2),
+        ("602f", Reason::Register, 1),
+        ("a0ff", Reason::Register, 1),
+        // Neither a halt nor an access is at fault, nor what stands on a wrong way.
+        ("00", Reason::None, 0),
+        ("5000ff00000000000000", Reason::None, 0),
+        ("9010", Reason::None, 0),
+        ("740a0000000000000000ff", Reason::None, 0),
+        ("740900000000000000d0", Reason::Code, 9),
+    ];
+    for (image, reason, address) in cases {
+        let image = from_hex(image);
+        let fault = Fault { reason, address };
+        let machine = run_pipeline(&image, Registers::default()).machine;
+        assert_ne!(machine.status, Status::Aok);
+        assert_eq!(machine.fault, fault, "{image:x?}");
+        let (plain, _) = run_plain(&image, Registers::default());
+        assert_eq!(plain.fault, fault, "{image:x?}");
+    }
+}
+
+/// #107: nothing is said while a machine runs, though what will stop it stands
+/// in its stages, and what was said stays when it is run on.
+#[test]
+fn a_fault_is_told_at_the_stop() {
+    let mut memory = from_hex("d0");
+    let mut machine = pipeline(&memory, Registers::default(), codes(4), 0);
+    for _ in 0..4 {
+        machine.clock(&mut memory).expect("a clock");
+        assert_eq!(machine.fault, Fault::default());
+    }
+    machine.clock(&mut memory).expect("a clock");
+    let told = Fault {
+        reason: Reason::Code,
+        address: 0,
+    };
+    assert_eq!((machine.status, machine.fault), (Status::Ins, told));
+    machine.clock(&mut memory).expect("a clock");
+    assert_eq!((machine.cycles, machine.fault), (5, told));
 }
 
 #[test]

@@ -6,6 +6,7 @@ mod common;
 use common::tally::{Classes, Tally};
 use common::{codes, pipeline, settings};
 use desk::generate::{Call, Calls, Generator, Origin, Way};
+use desk::second::fault::Stop;
 use desk::second::fetch::{fetch, Parts};
 use desk::second::letter;
 use desk::second::machine::{Refusal, Registers, Status};
@@ -144,6 +145,7 @@ fn plain(record: &letter::Machine) -> Plain {
         status: record.status,
         last: record.last,
         count: record.count,
+        fault: record.fault,
     }
 }
 
@@ -207,12 +209,14 @@ fn packed(record: &letter::Pipeline) -> Pipeline {
             .kept
             .map(|kept| undecided(&kept.instruction).decided(kept.holds)),
         settings: record.settings,
+        fault: record.fault,
     }
 }
 
 fn undecided(held: &letter::Instruction, rule: u8) -> Instruction {
     let code = (held.code, held.function);
     Instruction::new(held.address, code, (held.ra, held.rb), held.status)
+        .failed(held.reason)
         .guessed(rule, held.constant)
 }
 
@@ -263,14 +267,17 @@ fn programs_are_the_letters_equal_by_every_setting() {
 #[test]
 fn fetches_are_the_letters_equal() {
     let mut calls = Calls::new(0xfe7c);
-    let mut fillers = [0; 16];
+    let (mut fillers, mut reasons) = ([0; 16], [0; 6]);
     for number in 0..CALLS {
         let (memory, address) = calls.fetch();
-        let (Ok(()), expected) = letter::fetch_open(&memory, address) else {
+        let (Ok(()), expected, at_fault) = letter::fetch_open(&memory, address) else {
             continue;
         };
         let fast = fetch(&memory, address);
         assert_eq!(fast, by_the_letter(&expected), "call {number}");
+        let derived = expected.reason.address(address, memory.len() as u64);
+        assert_eq!(derived, at_fault, "call {number}");
+        reasons[expected.reason.number() as usize] += 1;
         if let Ok(Parts { code, .. }) = fast {
             let halves = memory.get(address as usize + 1);
             match (code, halves) {
@@ -281,11 +288,12 @@ fn fetches_are_the_letters_equal() {
         }
     }
     println!("compared {CALLS} fetches; fillers from 0 to 15: {fillers:?}");
-    assert!(fillers.iter().all(|count| *count > 0));
+    println!("reasons from 0 to 5: {reasons:?}");
+    assert!(fillers.iter().chain(&reasons).all(|count| *count > 0));
 }
 
 /// What the fast fetch answers where the letter has this.
-fn by_the_letter(fetched: &letter::Instruction) -> Result<Parts, Status> {
+fn by_the_letter(fetched: &letter::Instruction) -> Result<Parts, Stop> {
     match fetched.status {
         Status::Aok => Ok(Parts {
             code: fetched.code,
@@ -294,7 +302,10 @@ fn by_the_letter(fetched: &letter::Instruction) -> Result<Parts, Status> {
             rb: fetched.rb,
             constant: fetched.constant,
         }),
-        status => Err(status),
+        status => Err(Stop {
+            status,
+            reason: fetched.reason,
+        }),
     }
 }
 

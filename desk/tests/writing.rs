@@ -121,8 +121,8 @@ impl Lines {
                     *self.names.entry(name.into()).or_default() += 1;
                 }
                 None => match fetch(memory, address) {
-                    Ok(_) | Err(Status::Hlt) => self.crossing += 1,
-                    Err(_) => self.single += 1,
+                    Err(stop) if stop.status != Status::Hlt => self.single += 1,
+                    _ => self.crossing += 1,
                 },
             }
         }

@@ -10,10 +10,10 @@ use borrow.Author.Tests.{le-ltb, ltb-false, leb-false, ne-eqb}
 use lib.Dec.{ltb, leb, eqb, eqb·suc-zero}
 use lib.ListN.{length, getD, set, take, drop, length-set, List·getD-eq-default}
 use lib.Seq.{getD-set-same, getD-set-other, getD-drop}
-use Rattle.account.specs.Names.{Pipeline, Status, Instruction, Executed, Accessed, Kept}
+use Rattle.account.specs.Names.{Pipeline, Status, Fault, Instruction, Executed, Accessed, Kept}
 use Rattle.account.specs.Names.{StageD, bubbleD, inD, StageE, bubbleE, inE, StageM, bubbleM, inM, StageW, bubbleW, inW}
 use Rattle.machine.specs.Words.{placed}
-use Rattle.machine.specs.Memory.{Memory, lent, size, inside, store}
+use Rattle.machine.specs.Memory.{Memory, codeEnd, lent, size, inside, store}
 use Rattle.machine.specs.Table.{rowOf, table, is, cmov, jump, operation}
 use Rattle.machine.specs.Fetch.{fetch, parsed, stopping, half, ownBytes, sizeAt}
 use Rattle.machine.specs.Stages.{decode, execute, access, stores, accessAddress, storedWord, newMemory}
@@ -45,7 +45,9 @@ bytes-take (suc n) (b ∷ m) h (suc x) = bytes-take n m (λ y. h (suc y)) x
 
 bytes-own : (m : Memory) (a : ℕ) → Bytes (m .bytes) → Bytes (ownBytes m a)
 unfolding ownBytes
-bytes-own m a h = bytes-take (sizeAt m a) (drop a (m .bytes)) (λ x. subst (λ (y : ℕ). y < 256) (sym (getD-drop a (m .bytes) x 0)) (h (a + x)))
+bytes-own m a h =
+    let b = take (codeEnd m a) (m .bytes) in
+    bytes-take (sizeAt m a) (drop a b) (λ x. subst (λ (y : ℕ). y < 256) (sym (getD-drop a b x 0)) (bytes-take (codeEnd m a) (m .bytes) h (a + x)))
 
 bytes-set : (m : List ℕ) (a v : ℕ) → v < 256 → Bytes m → Bytes (set m a v)
 bytes-set m a v b h x = go (ℕ-discrete a x) (decLt x (length m))
@@ -70,9 +72,9 @@ bytes-stored x m h = go (stores (x .instruction)) (inside m (accessAddress x))
     go true true = bytes-placed 8 (m .bytes) (accessAddress x) (storedWord x) h
 
 -- A FETCHED INSTRUCTION is not refused
-stopping-fits : (a : ℕ) (x : Status) → instructionRefused (stopping a x) ≡ false
+stopping-fits : (a : ℕ) (x : Status) (y : Fault) → instructionRefused (stopping a x y) ≡ false
 unfolding instructionRefused stopping rowOf table is
-stopping-fits a x = refl
+stopping-fits a x y = refl
 
 half-fits : (named : Bool) (x : ℕ) → x < 16 → ltb 15 (half named x) ≡ false
 unfolding half

@@ -6,7 +6,7 @@ use mathlib.Core.Path.{_≡_, refl, sym, _∙_, subst}
 use native.Mathlib.Omega.{arith}
 use borrow.Author.Tests.{ltb-true, leb-true, lt-ltb, le-leb, lt-leb, leb-false}
 use lib.Dec.{ltb, leb}
-use Rattle.machine.specs.Memory.{size, inside}
+use Rattle.machine.specs.Memory.{codeEnd, inside}
 use Rattle.machine.specs.Fetch.{sizeAt}
 use Rattle.machine.specs.Stages.{stores, accessAddress}
 use Rattle.machine.specs.Plain.{Plain, isStopped, fetched, executed, steps}
@@ -25,7 +25,7 @@ unfoldable pub touches : Plain → Plain → Bool
 touches s t =
     let a = accessAddress (executed s) in
     let b = t .machine .address in
-    let n = size (t .memory) in
+    let n = codeEnd (t .memory) b in
     stores (fetched s) && (inside (s .memory) a && (ltb a (b + sizeAt (t .memory) b) && (ltb b (a + 8) && (ltb a n && ltb b n))))
 
 -- the ranges of 8 bytes from a and of k bytes from b, cut at n, have x in common
@@ -65,7 +65,7 @@ module _ (s t : Plain) where
       let b = t .machine .address in
       let w = both (stores (fetched s)) (inside (s .memory) a && (leb a x && ltb x (a + 8))) h in
       let v = both (inside (s .memory) a) (leb a x && ltb x (a + 8)) (w .1) in
-      cc (w .0, v .0, common a b (sizeAt (t .memory) b) (size (t .memory)) x (v .1) k)
+      cc (w .0, v .0, common a b (sizeAt (t .memory) b) (codeEnd (t .memory) b) x (v .1) k)
 
   pub touches-only : touches s t ≡ true → (x : ℕ) × (writesByte s x ≡ true) × (hasByte t x ≡ true)
   unfolding touches writesByte hasByte
@@ -73,7 +73,7 @@ module _ (s t : Plain) where
       let a = accessAddress (executed s) in
       let b = t .machine .address in
       let k = sizeAt (t .memory) b in
-      let n = size (t .memory) in
+      let n = codeEnd (t .memory) b in
       let w = both (stores (fetched s)) (inside (s .memory) a && (ltb a (b + k) && (ltb b (a + 8) && (ltb a n && ltb b n)))) h in
       let v = both (inside (s .memory) a) (ltb a (b + k) && (ltb b (a + 8) && (ltb a n && ltb b n))) (w .1) in
       let m = meet a b k n (size-positive (t .memory) b) (v .1) in

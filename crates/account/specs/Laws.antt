@@ -8,11 +8,11 @@ use native.Mathlib.Omega.{arith}
 use borrow.Author.Tests.{eqb-true}
 use lib.Dec.{T, eqb}
 use lib.ListN.{length}
-use Rattle.account.specs.Names.{Status, hlt, adr, ins, Codes, Instruction, Decoded, Retired, inM, inW}
+use Rattle.account.specs.Names.{Status, hlt, adr, ins, Fault, noFault, firstMissing, laterMissing, noRegister, Codes, Instruction, Decoded, Retired, inM, inW}
 use Rattle.machine.specs.Types.{isBad}
 use Rattle.machine.specs.Memory.{inside, store}
 use Rattle.machine.specs.Table.{Row, Sets, noCodes, byOp, bySum, rowOf, table, is, cmov, jump, ret}
-use Rattle.machine.specs.Fetch.{fetch, parsed, checked, stopping}
+use Rattle.machine.specs.Fetch.{fetch, parsed, checked, notInTable, stopping}
 use Rattle.machine.specs.Stages.{register, decode, execute, access, outcome, condition, loads, stores, loading, storing, accessAddress}
 use Rattle.machine.specs.Stages.{accessStatus, codesBy, newCodes, newMemory, newRegisters, loadedTarget, sourceA, sourceB, turned, straight, nextAddress}
 use Rattle.machine.specs.Plain.{Plain, isStopped, fetched, decoded, executed, accessed, performed, stoppedBy, step, steps}
@@ -39,20 +39,20 @@ record Fetched (a : ℕ) (i : Instruction) : Type 0 where
   nop : isBad (i .status) ≡ true → i .code ≡ 1
 
 -- what holds of every stopping instruction, and of the one read where code and function are in the table, holds of the checked one
-pub checked-any : (P : Instruction → Type 0) (f n l r h : Bool) (i : Instruction) → ((x : Status) → P (stopping (i .address) x)) → (n ≡ false → P i)
+pub checked-any : (P : Instruction → Type 0) (f n l r h : Bool) (i : Instruction) → ((x : Status) (y : Fault) → P (stopping (i .address) x y)) → (n ≡ false → P i)
     → P (checked f n l r h i)
 unfolding checked
-checked-any P true n l r h i s k = s adr
-checked-any P false true l r h i s k = s ins
-checked-any P false false true r h i s k = s adr
-checked-any P false false false true h i s k = s ins
-checked-any P false false false false true i s k = s hlt
+checked-any P true n l r h i s k = s adr firstMissing
+checked-any P false true l r h i s k = s ins (notInTable (i .code))
+checked-any P false false true r h i s k = s adr laterMissing
+checked-any P false false false true h i s k = s ins noRegister
+checked-any P false false false false true i s k = s hlt noFault
 checked-any P false false false false false i s k = k refl
 
 fetched-as : (s : Plain) → Fetched (s .machine .address) (fetched s)
 unfolding fetched fetch parsed stopping isBad
 fetched-as s =
-    checked-any (Fetched (s .machine .address)) _ _ _ _ _ _ (λ x. record { here = refl; nop = λ h. refl })
+    checked-any (Fetched (s .machine .address)) _ _ _ _ _ _ (λ x y. record { here = refl; nop = λ h. refl })
     (λ n. record { here = refl; nop = λ h. absurd (true≢false (sym h)) })
 
 pub fetched-address : (s : Plain) → fetched s .address ≡ s .machine .address
@@ -220,6 +220,10 @@ module _ (s : Plain) (r : isStopped s ≡ false) where
     pub step-registers : step s .machine .registers ≡ newRegisters (accessed s) (s .machine .registers)
     unfolding performed
     step-registers = ap (λ x. x .machine .registers) goes
+
+    pub step-blame : step s .machine .blame ≡ s .machine .blame
+    unfolding performed
+    step-blame = ap (λ x. x .machine .blame) goes
 
     address-next : step s .machine .address
         ≡ cond (is ret (fetched s)) (accessed s .word)

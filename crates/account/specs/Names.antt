@@ -1,6 +1,8 @@
 -- The declared types of the crate machine under one roof.
 pub use Rattle.machine.specs.declared.Status.{Status}
 pub use Rattle.machine.specs.declared.Status.the-variants.{Aok as aok, Hlt as hlt, Adr as adr, Ins as ins}
+pub use Rattle.machine.specs.declared.Fault.{Fault}
+pub use Rattle.machine.specs.declared.Fault.the-variants.{NoFault as noFault, FirstMissing as firstMissing, LaterMissing as laterMissing, NoRegister as noRegister}
 pub use Rattle.machine.specs.declared.Codes.{Codes}
 pub use Rattle.machine.specs.declared.Machine.{Machine}
 pub use Rattle.machine.specs.declared.Instruction.{Instruction}

@@ -6,15 +6,16 @@ use native.Mathlib.Omega.{arith}
 use native.Mathlib.Decide.{decLt}
 use borrow.Author.Tests.{lt-ltb, le-leb}
 use lib.Dec.{ltb, leb}
-use lib.ListN.{length, getD, take, drop, length-take, length-drop, List·getD-eq-default}
+use lib.ListN.{length, getD, take, drop, length-take, length-drop}
 use lib.Seq.{ext-getD, getD-take, getD-drop}
 use Rattle.account.specs.Names.{Executed}
-use Rattle.laws.specs.Memory.{size-stored, byte-stored}
-use Rattle.machine.specs.Memory.{Memory, size, inside, store}
+use Rattle.laws.specs.Memory.{size-stored, code-end-stored, byte-stored}
+use Rattle.machine.specs.Memory.{Memory, size, codeEnd, inside, store}
 use Rattle.machine.specs.Table.{rowOf}
 use Rattle.machine.specs.Fetch.{fetch, parsed, ownBytes, sizeAt}
 use Rattle.machine.specs.Stages.{decode, execute, stores, accessAddress, storedWord, newMemory}
 use Rattle.published.specs.Lengths.{length-rule, parts}
+use Rattle.published.specs.Fetching.{code-end-within}
 use Rattle.machine.specs.Plain.{Plain, isStopped, fetched, decoded, executed, step, steps}
 use Rattle.clocked.specs.Prediction.{Core}
 use Rattle.clocked.specs.Premise.{Untouched, writesByte, hasByte}
@@ -30,6 +31,14 @@ size-newMemory x m = go (stores (x .instruction))
     go false = refl
     go true = size-stored m (accessAddress x) (storedWord x)
 
+end-newMemory : (x : Executed) (m : Memory) (a : ℕ) → codeEnd (newMemory x m) a ≡ codeEnd m a
+unfolding newMemory
+end-newMemory x m a = go (stores (x .instruction))
+  where
+    go : (b : Bool) → codeEnd (cond b (store m (accessAddress x) (storedWord x)) m) a ≡ codeEnd m a
+    go false = refl
+    go true = code-end-stored m (accessAddress x) (storedWord x) a
+
 byte-newMemory : (x : Executed) (m : Memory) (a : ℕ)
     → (stores (x .instruction) && (inside m (accessAddress x) && (leb (accessAddress x) a && ltb a (accessAddress x + 8))) ≡ true → ⊥)
     → getD (newMemory x m .bytes) a 0 ≡ getD (m .bytes) a 0
@@ -43,8 +52,8 @@ byte-newMemory x m a h = go (stores (x .instruction)) h
 
 -- TWO MEMORIES that agree on an instruction's bytes
 record Same (m m′ : Memory) (a : ℕ) : Type 0 where
-  long : size m ≡ size m′
-  at : (x : ℕ) → a ≤ x → x < a + sizeAt m′ a → x < size m′ → getD (m .bytes) x 0 ≡ getD (m′ .bytes) x 0
+  end : codeEnd m a ≡ codeEnd m′ a
+  at : (x : ℕ) → a ≤ x → x < a + sizeAt m′ a → x < codeEnd m′ a → getD (m .bytes) x 0 ≡ getD (m′ .bytes) x 0
 
 pub both : (a b : Bool) → a && b ≡ true → (a ≡ true) × (b ≡ true)
 both true b h = (refl, h)
@@ -55,29 +64,40 @@ pub size-positive : (m : Memory) (a : ℕ) → 0 < sizeAt m a
 unfolding sizeAt parts
 size-positive m a = omega (arith, length-rule (getD (m .bytes) a 0 / 16))
 
-same-size : (m m′ : Memory) (a : ℕ) → Same m m′ a → sizeAt m a ≡ sizeAt m′ a
+same-size : (m m′ : Memory) (a : ℕ) → Same m m′ a → a < codeEnd m′ a → sizeAt m a ≡ sizeAt m′ a
 unfolding sizeAt
-same-size m m′ a h = ap (λ (b : ℕ). rowOf (b / 16) .size) (go (decLt a (size m′)))
-  where
-    go : Dec (a < size m′) → getD (m .bytes) a 0 ≡ getD (m′ .bytes) a 0
-    go (yes q) = h .at a (omega arith) (omega (arith, size-positive m′ a)) q
-    go (no q) = List·getD-eq-default (m .bytes) 0 (omega (arith, h .long)) ∙ sym (List·getD-eq-default (m′ .bytes) 0 (omega arith))
+same-size m m′ a h q = ap (λ (b : ℕ). rowOf (b / 16) .size) (h .at a (omega arith) (omega (arith, size-positive m′ a)) q)
 
-same-bytes : (m m′ : Memory) (a : ℕ) → Same m m′ a → ownBytes m a ≡ ownBytes m′ a
+-- as many bytes as the table has, or as there are
+length-own : (m : Memory) (a : ℕ) → length (ownBytes m a) ≡ min (sizeAt m a) (codeEnd m a - a)
 unfolding ownBytes
-same-bytes m m′ a h = ap (λ (n : ℕ). take n (drop a (m .bytes))) (same-size m m′ a h) ∙ ext-getD 0 _ _ lengths each
-  where
-    lengths : length (take (sizeAt m′ a) (drop a (m .bytes))) ≡ length (take (sizeAt m′ a) (drop a (m′ .bytes)))
-    lengths = simp (length-take, length-drop) (ap (λ (n : ℕ). min (sizeAt m′ a) (n - a)) (h .long))
+length-own m a =
+    let within = code-end-within m a in
+    simp (length-take, length-drop) (omega arith)
 
-    each : (i : ℕ) → i < length (take (sizeAt m′ a) (drop a (m .bytes)))
-        → getD (take (sizeAt m′ a) (drop a (m .bytes))) i 0 ≡ getD (take (sizeAt m′ a) (drop a (m′ .bytes))) i 0
-    each i q =
-        let z : i < min (sizeAt m′ a) (size m - a) = simp (length-take, length-drop) at q in
-        let e = h .long in
-        getD-take (sizeAt m′ a) (drop a (m .bytes)) i 0 (omega arith)
-        ∙ (getD-drop a (m .bytes) i 0 ∙ (h .at (a + i) (omega arith) (omega arith) (omega arith)
-        ∙ sym (getD-take (sizeAt m′ a) (drop a (m′ .bytes)) i 0 (omega arith) ∙ getD-drop a (m′ .bytes) i 0)))
+byte-own : (m : Memory) (a i : ℕ) → i < length (ownBytes m a) → getD (ownBytes m a) i 0 ≡ getD (m .bytes) (a + i) 0
+unfolding ownBytes
+byte-own m a i q =
+    let z : i < min (sizeAt m a) (codeEnd m a - a) = rw (sym (length-own m a)) q in
+    getD-take (sizeAt m a) (drop a (take (codeEnd m a) (m .bytes))) i 0 (omega arith)
+    ∙ (getD-drop a (take (codeEnd m a) (m .bytes)) i 0 ∙ getD-take (codeEnd m a) (m .bytes) (a + i) 0 (omega arith))
+
+module _ (m m′ : Memory) (a : ℕ) (h : Same m m′ a) where
+  same-length : length (ownBytes m a) ≡ length (ownBytes m′ a)
+  same-length = length-own m a ∙ (go (decLt a (codeEnd m′ a)) ∙ sym (length-own m′ a))
+    where
+      go : Dec (a < codeEnd m′ a) → min (sizeAt m a) (codeEnd m a - a) ≡ min (sizeAt m′ a) (codeEnd m′ a - a)
+      go (yes q) = omega (arith, same-size m m′ a h q, h .end)
+      go (no q) = omega (arith, h .end)
+
+  same-byte : (i : ℕ) → i < length (ownBytes m a) → getD (ownBytes m a) i 0 ≡ getD (ownBytes m′ a) i 0
+  same-byte i q =
+      let r : i < length (ownBytes m′ a) = omega (arith, same-length) in
+      let z = length-own m′ a in
+      byte-own m a i q ∙ (h .at (a + i) (omega arith) (omega arith) (omega arith) ∙ sym (byte-own m′ a i r))
+
+  same-bytes : ownBytes m a ≡ ownBytes m′ a
+  same-bytes = ext-getD 0 _ _ same-length same-byte
 
 same-fetch : (m m′ : Memory) (a : ℕ) → Same m m′ a → fetch m a ≡ fetch m′ a
 unfolding fetch
@@ -85,11 +105,11 @@ same-fetch m m′ a h = ap (parsed a) (same-bytes m m′ a h)
 
 -- one instruction further back, which writes none of the bytes
 same-back : (s : Plain) (m′ : Memory) (a : ℕ) → isStopped s ≡ false → Same (step s .memory) m′ a
-    → ((x : ℕ) → writesByte s x ≡ true → a ≤ x → x < a + sizeAt m′ a → x < size m′ → ⊥) → Same (s .memory) m′ a
+    → ((x : ℕ) → writesByte s x ≡ true → a ≤ x → x < a + sizeAt m′ a → x < codeEnd m′ a → ⊥) → Same (s .memory) m′ a
 unfolding writesByte executed execute decoded decode
 same-back s m′ a r h k =
     record {
-      long = sym (ap size (step-memory s r) ∙ size-newMemory (executed s) (s .memory)) ∙ h .long;
+      end = sym (ap (λ (m : Memory). codeEnd m a) (step-memory s r) ∙ end-newMemory (executed s) (s .memory) a) ∙ h .end;
       at = λ x lo hi q. sym (unwritten x (λ e. k x e lo hi q)) ∙ h .at x lo hi q;
     }
   where
@@ -110,7 +130,7 @@ module _ (g : Core) (s : Plain) (K : ℕ) (u : Untouched s K) where
   unfolding steps hasByte
   back zero j n e b l =
       let q : j ≡ n = omega arith in
-      rw q (record { long = refl; at = λ x _ _ _. refl })
+      rw q (record { end = refl; at = λ x _ _ _. refl })
   back (suc d) j n e b l =
       same-back (steps s j) (steps s n .memory) (steps s n .machine .address) (runs-before s (suc d) j n e (l .runs))
       (back d (suc j) n (omega arith) (omega arith) l)

@@ -54,10 +54,11 @@ pub record Agrees (g : Core) (s : Plain) (p : Piped) (c n : ℕ) : Type 0 where
   pub cycles : p .cycleLog ≡ dueCycles g s n
   -- "The cycle counts kept by kind sum the charges of the instructions that the pipeline retired"
   pub kinds : p .pipeline .kinds ≡ kindsOf g s n
-  -- registers, status and last address are the plain engine's after as many instructions
+  -- registers, status, last address and the reason of a bad fetch are the plain engine's after as many instructions
   pub registers : p .pipeline .registers ≡ steps s n .machine .registers
   pub status : p .pipeline .status ≡ steps s n .machine .status
   pub last : p .pipeline .last ≡ steps s n .machine .last
+  pub blame : p .pipeline .blame ≡ steps s n .machine .blame
   -- while it runs, the instruction last retired is, field for field, the one that the plain engine performed
   pub kept : isBad (p .pipeline .status) ≡ false → p .pipeline .kept ≡ keptOf s n
   -- and every clock is counted

@@ -8,6 +8,7 @@ use native.Mathlib.Omega.{arith}
 use lib.ListN.{length}
 use Rattle.account.specs.Names.{aok, bubbleW, inW}
 use Rattle.machine.specs.Types.{isBad}
+use Rattle.machine.specs.Fetch.{blameOf}
 use Rattle.machine.specs.Plain.{Plain, plainStart, isStopped, fetched, accessed, stoppedBy, steps}
 use Rattle.clocked.specs.Prediction.{Core}
 use Rattle.clocked.specs.Charges.{reasonFrom, reasonOf, kindsOf, charge, charges, amount, due, dueCycles}
@@ -39,6 +40,7 @@ module _ (g : Core) (s : Plain) (k : ℕ) where
     pub cycles : p .cycleLog ≡ dueCycles g s n
     pub kinds : p .pipeline .kinds ≡ kindsOf g s n
     pub last : p .pipeline .last ≡ steps s n .machine .last
+    pub blame : p .pipeline .blame ≡ steps s n .machine .blame
 
   -- where it stands: it runs on, or it has stopped
   pub data Now (p : Piped) (c n : ℕ) : Type 0 where
@@ -79,6 +81,7 @@ module _ (g : Core) (s : Plain) (k : ℕ) where
           registers = r;
           status = st;
           last = k .last;
+          blame = k .blame;
           kept = λ h. on h .0;
           running = λ h. on h .1;
           stopped = off;
@@ -102,15 +105,16 @@ module _ (g : Core) (s : Plain) (k : ℕ) where
 
   -- ONE CLOCK
   counted-next : (p p′ : Piped) (c n : ℕ) → Counted p n → Books g p p′ (accessed (steps s n)) → p .pipeline .cycles ≡ c → p .pipeline .kept ≡ keptOf s n
-      → isStopped (steps s n) ≡ false → due g s (suc n) ≡ c + 1 → Counted p′ (suc n)
+      → isStopped (steps s n) ≡ false → due g s (suc n) ≡ c + 1 → p′ .pipeline .blame ≡ steps s (suc n) .machine .blame → Counted p′ (suc n)
   unfolding steps dueCycles kindsOf
-  counted-next p p′ c n i b y v r t =
+  counted-next p p′ c n i b y v r t f =
       record {
         retired = omega (arith, b .retired, i .retired);
         addresses = cc (b .addresses, i .addresses, here, Laws.step-logs (steps s n) r .log);
         cycles = cc (b .cycles, i .cycles, now);
         kinds = cc (b .kinds, i .kinds, Laws.in-accessed (steps s n), reason-kept n);
         last = cc (b .last, here, Laws.step-logs (steps s n) r .last);
+        blame = f;
       }
     where
       here : accessed (steps s n) .instruction .address ≡ steps s n .machine .address
@@ -133,6 +137,7 @@ module _ (g : Core) (s : Plain) (k : ℕ) where
                   cycles = cc (i .cycles, append-nil (p .cycleLog));
                   kinds = cc (i .kinds);
                   last = cc (i .last);
+                  blame = i .blame;
                 };
             older = older-later g s o (suc c) (omega arith);
             now = going refl (omega arith) (cc) (Clock.clock-empty g s (suc k) p c (Sight.sight g s (suc k) u) len n r h w a);
@@ -140,10 +145,10 @@ module _ (g : Core) (s : Plain) (k : ℕ) where
 
       module _ (l : Known g s (suc k) n) (w : p .pipeline .w ≡ inW (accessed (steps s n))) (t : due g s (suc n) ≡ c + 1) (a : AtM g s (suc k) p c (suc n)) where
         after-retires : isStopped (steps s (suc n)) ≡ false → After (advanced g p) (suc c) (suc n)
-        unfolding advanced keptAfter keptOf
+        unfolding advanced keptAfter keptOf steps
         after-retires r =
             record {
-              counts = counted-next p (advanced g p) c n i (books-retires g p (accessed (steps s n)) w) y v (l .runs) t;
+              counts = counted-next p (advanced g p) c n i (books-retires g p (accessed (steps s n)) w) y v (l .runs) t (i .blame ∙ sym (Laws.step-blame (steps s n) (l .runs) r));
               older = older-next g s o (l .runs) (suc c) (omega arith) (omega arith);
               now = going refl (omega arith) (cc) (Clock.clock-full g s (suc k) p c (Sight.sight g s (suc k) u) len n l r h w a);
             }
@@ -152,13 +157,26 @@ module _ (g : Core) (s : Plain) (k : ℕ) where
         unfolding steps stoppedIn stoppedBy
         after-stops r =
             record {
-              counts = counted-next p _ c n i (books-stops g p (accessed (steps s n))) y v (l .runs) t;
+              counts = counted-next p _ c n i (books-stops g p (accessed (steps s n))) y v (l .runs) t (blamed a);
               older = older-next g s o (l .runs) (suc c) (omega arith) (omega arith);
               now = go a;
             }
           where
             e : steps s (suc n) ≡ stoppedBy (steps s n) (accessed (steps s n) .status)
             e = Laws.step-stopped (steps s n) (l .runs) (sym (Laws.step-stops (steps s n) (l .runs)) ∙ r)
+
+            -- the memory in which the byte at fault is looked for is the plain engine's
+            same : p .memory ≡ steps s (suc n) .memory → p .memory ≡ steps s n .memory
+            same m = m ∙ ap (λ x. x .memory) e
+
+            blamed : AtM g s (suc k) p c (suc n) → stoppedIn g p (accessed (steps s n)) .pipeline .blame ≡ steps s (suc n) .machine .blame
+            blamed (beyondM b) = absurd (true≢false (sym r ∙ b .runs))
+            blamed (stopM _ kc km) =
+                let at : blameOf (p .memory) (accessed (steps s n) .instruction) ≡ blameOf (steps s n .memory) (fetched (steps s n)) =
+                cc (same km, Laws.in-accessed (steps s n)) in
+                at ∙ sym (ap (λ x. x .machine .blame) e)
+            blamed (emptyM b _ _ _) = absurd (true≢false (sym r ∙ b))
+            blamed (fullM b _ _ _ _) = absurd (true≢false (sym r ∙ b .runs))
 
             go : AtM g s (suc k) p c (suc n) → Now (stoppedIn g p (accessed (steps s n))) (suc c) (suc n)
             go (beyondM b) = absurd (true≢false (sym r ∙ b .runs))
@@ -202,7 +220,7 @@ module _ (g : Core) (t : Start) (k : ℕ) where
       waits waitsBehind waitsFor fetchAddress mended returnedTo
   start-after =
       record {
-        counts = record { retired = refl; addresses = refl; cycles = refl; kinds = refl; last = refl };
+        counts = record { retired = refl; addresses = refl; cycles = refl; kinds = refl; last = refl; blame = refl };
         older = record { performed = λ j q. absurd (omega arith); arrived = λ j q. absurd (omega arith) };
         now =
             going refl refl refl (emptyW refl refl refl

@@ -179,10 +179,11 @@ pub record EndsAgree (t : Start) (budget clocked : ℕ) (x : PlainAnswer) (y : P
   -- exactly the instructions that are due by the pipeline's last clock have retired
   pub exactly : DueBy (chosen t) (plainFrom t) clocked (y .pipeline .retired)
   pub kinds : y .pipeline .kinds ≡ kindsOf (chosen t) (plainFrom t) (y .pipeline .retired)
-  -- registers, status and last address are the plain engine's after as many instructions
+  -- registers, status, last address and the reason of a bad fetch are the plain engine's after as many instructions
   pub registers : y .pipeline .registers ≡ steps (plainFrom t) (y .pipeline .retired) .machine .registers
   pub status : y .pipeline .status ≡ steps (plainFrom t) (y .pipeline .retired) .machine .status
   pub last : y .pipeline .last ≡ steps (plainFrom t) (y .pipeline .retired) .machine .last
+  pub blame : y .pipeline .blame ≡ steps (plainFrom t) (y .pipeline .retired) .machine .blame
   -- while it runs so is the instruction last retired, and every clock is counted; at a stop so are memory and codes
   pub running : isBad (y .pipeline .status) ≡ false → (y .pipeline .kept ≡ keptOf (plainFrom t) (y .pipeline .retired)) × (y .pipeline .cycles ≡ clocked)
   pub stopped : isBad (y .pipeline .status) ≡ true
@@ -204,6 +205,7 @@ pub record Level (x : PlainAnswer) (y : PipeAnswer) : Type 0 where
   pub registers : y .pipeline .registers ≡ x .machine .registers
   pub status : y .pipeline .status ≡ x .machine .status
   pub last : y .pipeline .last ≡ x .machine .last
+  pub blame : y .pipeline .blame ≡ x .machine .blame
   pub stopped : isBad (y .pipeline .status) ≡ true → (y .memory ≡ x .memory) × (y .pipeline .codes ≡ x .machine .codes)
 
 pub level : (t : Start) (budget clocked : ℕ) (x : PlainAnswer) (y : PipeAnswer) → EndsAgree t budget clocked x y
@@ -211,7 +213,7 @@ pub level : (t : Start) (budget clocked : ℕ) (x : PlainAnswer) (y : PipeAnswer
 level t budget clocked x y r e =
     let m = r .plain .0 in
     let n = r .plain .1 in
-    record { registers = cc; status = cc; last = cc; stopped = λ h. let w = r .stopped h in (cc (w .0), cc (w .1)) }
+    record { registers = cc; status = cc; last = cc; blame = cc; stopped = λ h. let w = r .stopped h in (cc (w .0), cc (w .1)) }
 
 module _ (g : Core) (t : Start) where
   -- what the first n lines of the logs say
@@ -274,6 +276,7 @@ module _ (t : Start) (budget clocked : ℕ) (log addresses cycles : List ℕ) wh
             registers = rw e (y .registers);
             status = rw e (y .status);
             last = rw e (y .last);
+            blame = rw e (y .blame);
             running = λ h. rw e (y .kept h, y .running h);
             stopped = λ h. rw e (y .stopped h);
             plain-stopped = λ h z.

@@ -56,6 +56,7 @@ pub record SameAnswer (p q : Piped) : Type 0 where
   pub registers : p .pipeline .registers ≡ q .pipeline .registers
   pub status : p .pipeline .status ≡ q .pipeline .status
   pub last : p .pipeline .last ≡ q .pipeline .last
+  pub blame : p .pipeline .blame ≡ q .pipeline .blame
   pub kept : isBad (p .pipeline .status) ≡ false → p .pipeline .kept ≡ q .pipeline .kept
   pub stopped : isBad (p .pipeline .status) ≡ true → (p .memory ≡ q .memory) × (p .pipeline .codes ≡ q .pipeline .codes)
 
@@ -73,6 +74,7 @@ same-answer g s p q c m n a b = go (subst (λ (x : ℕ). Agrees g s p c x) (due-
           registers = cc;
           status = same;
           last = cc;
+          blame = cc;
           kept = λ h. a .kept h ∙ sym (b .kept (sym (ap isBad same) ∙ h));
           stopped = λ h. let x = a .stopped h in let y = b .stopped (sym (ap isBad same) ∙ h) in (x .0 ∙ sym (y .0), x .1 ∙ sym (y .1));
         }

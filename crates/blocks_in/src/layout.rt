@@ -19,25 +19,27 @@ pub const CONSTANT: u64 = 7;
 
 pub const NEXT: u64 = 8;
 
-pub const E_A: u64 = 9;
+pub const FAULT: u64 = 9;
 
-pub const E_B: u64 = 10;
+pub const E_A: u64 = 10;
 
-pub const M_A: u64 = 9;
+pub const E_B: u64 = 11;
 
-pub const M_RESULT: u64 = 10;
+pub const M_A: u64 = 10;
 
-pub const M_HOLDS: u64 = 11;
+pub const M_RESULT: u64 = 11;
 
-pub const W_RESULT: u64 = 9;
+pub const M_HOLDS: u64 = 12;
 
-pub const W_HOLDS: u64 = 10;
+pub const W_RESULT: u64 = 10;
 
-pub const W_WORD: u64 = 11;
+pub const W_HOLDS: u64 = 11;
 
-pub const W_STATUS: u64 = 12;
+pub const W_WORD: u64 = 12;
 
-pub const KEPT_HOLDS: u64 = 9;
+pub const W_STATUS: u64 = 13;
+
+pub const KEPT_HOLDS: u64 = 10;
 
 // In a state part, behind the registers.
 pub const ZF: u64 = 15;
@@ -50,36 +52,40 @@ pub const STATE_STATUS: u64 = 18;
 
 pub const LAST: u64 = 19;
 
-// In a machine block, which begins with the state.
-pub const PROGRAM_ADDRESS: u64 = 20;
+pub const STATE_FAULT: u64 = 20;
 
-pub const COUNT: u64 = 21;
+pub const FAULT_ADDRESS: u64 = 21;
+
+// In a machine block, which begins with the state.
+pub const PROGRAM_ADDRESS: u64 = 22;
+
+pub const COUNT: u64 = 23;
 
 // In a pipeline block.
 pub const PREDICTED: u64 = 0;
 
 pub const D: u64 = 1;
 
-pub const E: u64 = 10;
+pub const E: u64 = 11;
 
-pub const M: u64 = 21;
+pub const M: u64 = 23;
 
-pub const W: u64 = 33;
+pub const W: u64 = 36;
 
-pub const STATE: u64 = 46;
+pub const STATE: u64 = 50;
 
-pub const RETIRED: u64 = 66;
+pub const RETIRED: u64 = 72;
 
-pub const CYCLES: u64 = 67;
+pub const CYCLES: u64 = 73;
 
-pub const LOADUSE: u64 = 68;
+pub const LOADUSE: u64 = 74;
 
-pub const MISPREDICT: u64 = 69;
+pub const MISPREDICT: u64 = 75;
 
-pub const RETURNED: u64 = 70;
+pub const RETURNED: u64 = 76;
 
-pub const KEPT: u64 = 71;
+pub const KEPT: u64 = 77;
 
-pub const RULE: u64 = 81;
+pub const RULE: u64 = 88;
 
-pub const LATE: u64 = 82;
+pub const LATE: u64 = 89;

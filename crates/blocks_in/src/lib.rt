@@ -3,18 +3,18 @@
 // A block of words holds a record. A word that the block lacks reads 0, and a place that it lacks takes nothing.
 //
 //   part         words  what they hold, in this order
-//   instruction      9  a mark (0: a bubble, or none kept; 1: an instruction), address, status, code, function, rA, rB, constant, next
-//   state           20  fifteen registers, ZF, SF, OF, status, last address
+//   instruction     10  a mark (0: a bubble, or none kept; 1: an instruction), address, status, code, function, rA, rB, constant, next, fault
+//   state           22  fifteen registers, ZF, SF, OF, status, last address, fault, fault address
 //
 //   block        words  what they hold, each with its first place
-//   machine         22  0 state, 20 program address, 21 count
-//   pipeline        83  0 predicted address; 1 D: instruction; 10 E: instruction, a, b; 21 M: instruction, a, result, holds;
-//                       33 W: instruction, result, holds, word, status; 46 state; 66 retired; 67 cycles;
-//                       68 cycles charged for load-use, mispredict, return; 71 kept: instruction, holds;
-//                       81 settings: the number of the rule, whether store data comes late
-//   fetched          9  0 instruction
+//   machine         24  0 state, 22 program address, 23 count
+//   pipeline        90  0 predicted address; 1 D: instruction; 11 E: instruction, a, b; 23 M: instruction, a, result, holds;
+//                       36 W: instruction, result, holds, word, status; 50 state; 72 retired; 73 cycles;
+//                       74 cycles charged for load-use, mispredict, return; 77 kept: instruction, holds;
+//                       88 settings: the number of the rule, whether store data comes late
+//   fetched         11  0 instruction, 10 fault address
 //
-// A status is its number in document 01, any other word AOK. Of a word for a byte the lowest byte counts, of a word for
+// A status is its number in document 01, any other word AOK; a fault is its number in document 02, any other word none. Of a word for a byte the lowest byte counts, of a word for
 // a truth value the lowest bit. Where a record has a bubble, or keeps none, only the mark is written: the words after
 // it stay as they were.
 pub mod layout;

@@ -8,6 +8,8 @@ use crate::layout::D;
 use crate::layout::E;
 use crate::layout::E_A;
 use crate::layout::E_B;
+use crate::layout::FAULT;
+use crate::layout::FAULT_ADDRESS;
 use crate::layout::FUNCTION;
 use crate::layout::KEPT;
 use crate::layout::KEPT_HOLDS;
@@ -31,6 +33,7 @@ use crate::layout::RETURNED;
 use crate::layout::RULE;
 use crate::layout::SF;
 use crate::layout::STATE;
+use crate::layout::STATE_FAULT;
 use crate::layout::STATE_STATUS;
 use crate::layout::STATUS;
 use crate::layout::W;
@@ -49,9 +52,11 @@ use clocked::StageE;
 use clocked::StageM;
 use clocked::StageW;
 use machine::Accessed;
+use machine::Blame;
 use machine::Codes;
 use machine::Decoded;
 use machine::Executed;
+use machine::Fault;
 use machine::Instruction;
 use machine::Machine;
 use machine::Status;
@@ -80,6 +85,25 @@ fn status_at(block: &[u64], part: u64, place: u64) -> Status {
     }
 }
 
+fn fault_at(block: &[u64], part: u64, place: u64) -> Fault {
+    let number = word_at(block, part, place);
+    match number {
+        1 => Fault::FirstMissing,
+        2 => Fault::NoCode,
+        3 => Fault::NoFunction,
+        4 => Fault::LaterMissing,
+        5 => Fault::NoRegister,
+        _ => Fault::NoFault,
+    }
+}
+
+fn blame_in(block: &[u64], state: u64) -> Blame {
+    Blame {
+        fault: fault_at(block, state, STATE_FAULT),
+        address: word_at(block, state, FAULT_ADDRESS),
+    }
+}
+
 fn is_marked(block: &[u64], part: u64) -> bool {
     word_at(block, part, MARK) != 0
 }
@@ -94,6 +118,7 @@ fn instruction_in(block: &[u64], part: u64) -> Instruction {
         rb: byte_at(block, part, RB),
         constant: word_at(block, part, CONSTANT),
         next: word_at(block, part, NEXT),
+        fault: fault_at(block, part, FAULT),
     }
 }
 
@@ -200,6 +225,7 @@ pub fn machine_in(block: &[u64]) -> Machine {
         status: status_at(block, 0, STATE_STATUS),
         last: word_at(block, 0, LAST),
         count: word_at(block, COUNT, 0),
+        blame: blame_in(block, 0),
     }
 }
 
@@ -226,5 +252,6 @@ pub fn pipeline_in(block: &[u64]) -> Pipeline {
         cycles: word_at(block, CYCLES, 0),
         kinds: kinds_in(block),
         kept: kept_in(block),
+        blame: blame_in(block, STATE),
     }
 }

@@ -9,6 +9,8 @@ use blocks_in::layout::D;
 use blocks_in::layout::E;
 use blocks_in::layout::E_A;
 use blocks_in::layout::E_B;
+use blocks_in::layout::FAULT;
+use blocks_in::layout::FAULT_ADDRESS;
 use blocks_in::layout::FUNCTION;
 use blocks_in::layout::KEPT;
 use blocks_in::layout::KEPT_HOLDS;
@@ -32,6 +34,7 @@ use blocks_in::layout::RETURNED;
 use blocks_in::layout::RULE;
 use blocks_in::layout::SF;
 use blocks_in::layout::STATE;
+use blocks_in::layout::STATE_FAULT;
 use blocks_in::layout::STATE_STATUS;
 use blocks_in::layout::STATUS;
 use blocks_in::layout::W;
@@ -47,7 +50,9 @@ use clocked::StageD;
 use clocked::StageE;
 use clocked::StageM;
 use clocked::StageW;
+use machine::Blame;
 use machine::Codes;
+use machine::Fault;
 use machine::Instruction;
 use machine::Machine;
 use machine::Status;
@@ -81,6 +86,32 @@ fn put_status(block: &mut [u64], part: u64, place: u64, status: Status) {
     put(block, part, place, status_number(status));
 }
 
+fn fault_number(fault: Fault) -> u64 {
+    match fault {
+        Fault::NoFault => 0,
+        Fault::FirstMissing => 1,
+        Fault::NoCode => 2,
+        Fault::NoFunction => 3,
+        Fault::LaterMissing => 4,
+        Fault::NoRegister => 5,
+    }
+}
+
+fn put_fault(block: &mut [u64], part: u64, place: u64, fault: Fault) {
+    put(block, part, place, fault_number(fault));
+}
+
+fn put_blame(block: &mut [u64], state: u64, blame: Blame) {
+    let fault = blame.fault;
+    put_fault(block, state, STATE_FAULT, fault);
+    put(block, state, FAULT_ADDRESS, blame.address);
+}
+
+// What a bad fetch is blamed on, behind its instruction: of the answer of a fetch.
+pub fn put_fault_address(block: &mut [u64], blame: Blame) {
+    put(block, FAULT, 1, blame.address);
+}
+
 fn put_bubble(block: &mut [u64], part: u64) {
     put(block, part, MARK, 0);
 }
@@ -94,12 +125,14 @@ fn put_names(block: &mut [u64], part: u64, i: Instruction) {
 
 pub fn put_instruction(block: &mut [u64], part: u64, i: Instruction) {
     let status = i.status;
+    let fault = i.fault;
     put(block, part, MARK, 1);
     put(block, part, ADDRESS, i.address);
     put_status(block, part, STATUS, status);
     put_names(block, part, i);
     put(block, part, CONSTANT, i.constant);
     put(block, part, NEXT, i.next);
+    put_fault(block, part, FAULT, fault);
 }
 
 fn put_d(block: &mut [u64], d: StageD) {
@@ -222,6 +255,7 @@ fn put_state(
 }
 
 pub fn put_pipeline(block: &mut [u64], p: Pipeline) {
+    let blame = p.blame;
     let settings = p.settings;
     let registers = p.registers;
     let codes = p.codes;
@@ -229,16 +263,19 @@ pub fn put_pipeline(block: &mut [u64], p: Pipeline) {
     put(block, PREDICTED, 0, p.predicted);
     put_stages(block, p);
     put_state(block, STATE, registers, codes, status, p.last);
+    put_blame(block, STATE, blame);
     put_counts(block, p);
     put(block, RULE, 0, settings.rule as u64);
     put_truth(block, LATE, 0, settings.late);
 }
 
 pub fn put_machine(block: &mut [u64], m: Machine) {
+    let blame = m.blame;
     let registers = m.registers;
     let codes = m.codes;
     let status = m.status;
     put_state(block, 0, registers, codes, status, m.last);
+    put_blame(block, 0, blame);
     put(block, PROGRAM_ADDRESS, 0, m.address);
     put(block, COUNT, 0, m.count);
 }

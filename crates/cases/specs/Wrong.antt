@@ -184,7 +184,7 @@ pipe-idles = (differs pipeCycles 0 5 refl, differs pipeCycles 0 1 refl, differs 
 -- ONE THAT ALWAYS ANSWERS HLT
 -- a record with another status and count; with other registers, codes, status and count of cycles
 abbrev counting : Machine → Status → ℕ → Machine
-counting k s n = record { registers = k .registers; codes = k .codes; address = k .address; status = s; last = k .last; count = n }
+counting k s n = record { registers = k .registers; codes = k .codes; address = k .address; status = s; last = k .last; count = n; blame = k .blame }
 
 abbrev changed : Pipeline → Registers → Codes → Status → ℕ → Pipeline
 changed k r c s y =
@@ -203,6 +203,7 @@ changed k r c s y =
       cycles = y;
       kinds = k .kinds;
       kept = k .kept;
+      blame = k .blame;
     }
 
 abbrev pub plainHalts : PlainReplay → PlainReplay
@@ -238,7 +239,7 @@ plainWhole k m budget l =
 -- the plain engine's end in the first clock, and later what is there
 abbrev atOnce : Pipeline → Memory → Plain
 atOnce k m =
-    let s = plainOf (record { registers = k .registers; codes = k .codes; address = k .predicted; status = k .status; last = k .last; count = k .retired }) m in
+    let s = plainOf (record { registers = k .registers; codes = k .codes; address = k .predicted; status = k .status; last = k .last; count = k .retired; blame = k .blame }) m in
     cond (eqb (k .cycles) 0) (whole plainLimit s) s
 
 -- memory alone is the plain engine's at its end; the codes alone are
@@ -384,6 +385,7 @@ stores-at-once-agrees =
       registers = refl;
       status = refl;
       last = refl;
+      blame = refl;
       running = λ _. refl;
       stopped = λ h. absurd (true≢false (sym h));
     }

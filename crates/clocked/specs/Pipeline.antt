@@ -7,7 +7,7 @@ use Rattle.clocked.specs.Record.{Settings, Pipeline, Instruction, Decode
 use Rattle.clocked.specs.Record.{StageD, bubbleD, inD, StageE, bubbleE, inE, StageM, bubbleM, inM, StageW, bubbleW, inW, Kept, noneKept, lastKept}
 use Rattle.machine.specs.Memory.{Memory, Registers, value}
 use Rattle.machine.specs.Table.{is, ret}
-use Rattle.machine.specs.Fetch.{fetch}
+use Rattle.machine.specs.Fetch.{fetch, blameOf, noBlame}
 use Rattle.machine.specs.Stages.{decode, execute, access, newCodes, newMemory, newRegisters, resultTarget, loadedTarget, turned, sourceA}
 use Rattle.clocked.specs.Prediction.{Core, predictedNext, mispredicted, meets, loadUse, takesLate}
 use Rattle.clocked.specs.Charges.{noKinds, counted, retiredOf, reasonFrom}
@@ -37,6 +37,7 @@ pipeStart s r c a =
       cycles = 0;
       kinds = noKinds;
       kept = noneKept;
+      blame = noBlame;
     }
 
 abbrev pub pipedOf : Pipeline → Memory → Piped
@@ -228,13 +229,15 @@ advanced g p =
             cycles = k .cycles + 1;
             kinds = kindsAfter g (k .w) (k .kept) (k .kinds);
             kept = keptAfter (k .w) (k .kept);
+            blame = k .blame;
           };
       memory = memoryAfter (k .m) (p .memory);
       addressLog = p .addressLog ++ logged (k .w) (lastAfter (k .w) (k .last));
       cycleLog = p .cycleLog ++ logged (k .w) (k .cycles + 1);
     }
 
--- "When its status is bad, that clock changes only the counts, logs, status and last address: everything else stays as it stood."
+-- "When its status is bad, that clock changes only the counts, logs, status and last address: everything else stays as it stood." And
+-- "Both engines carry the reason to the stopping answer" (02, #107)
 unfoldable pub stoppedIn : Core → Piped → Accessed → Piped
 stoppedIn g p w =
     let k = p .pipeline in
@@ -255,6 +258,7 @@ stoppedIn g p w =
             cycles = k .cycles + 1;
             kinds = counted (k .kinds) (reasonFrom g (k .kept) (w .instruction));
             kept = k .kept;
+            blame = blameOf (p .memory) (w .instruction);
           };
       memory = p .memory;
       addressLog = p .addressLog ++ w .instruction .address ∷ [];

@@ -3,7 +3,7 @@ use Prim.Native.Nat.{ℕ, _+_, _≤_, _<_}
 use mathlib.Core.Bool.{Bool, true, false, _&&_}
 use mathlib.Core.Path.{_≡_}
 use lib.Dec.{ltb, leb}
-use Rattle.machine.specs.Memory.{size, inside}
+use Rattle.machine.specs.Memory.{codeEnd, inside}
 use Rattle.machine.specs.Fetch.{sizeAt}
 use Rattle.machine.specs.Stages.{stores, accessAddress}
 use Rattle.machine.specs.Plain.{Plain, isStopped, fetched, executed, steps}
@@ -18,7 +18,7 @@ writesByte s x =
 unfoldable pub hasByte : Plain → ℕ → Bool
 hasByte s x =
     let a = s .machine .address in
-    leb a x && (ltb x (a + sizeAt (s .memory) a) && ltb x (size (s .memory)))
+    leb a x && (ltb x (a + sizeAt (s .memory) a) && ltb x (codeEnd (s .memory) a))
 
 -- demand 3: "no store writes a byte of any of the next three instructions the plain engine performs", among its first K
 abbrev pub Untouched : Plain → ℕ → Type 0

@@ -1,5 +1,6 @@
 // The pipelined engine's limit and its types. What they mean, document 01's five-stage rules, is in specs/.
 use machine::Accessed;
+use machine::Blame;
 use machine::Codes;
 use machine::Decoded;
 use machine::Executed;
@@ -63,7 +64,7 @@ pub struct Kinds {
     pub returned: u64,
 }
 
-// The pipelined engine's record: its settings, which stay; F is the predicted address alone.
+// The pipelined engine's record: its settings, which stay; F is the predicted address alone; what a bad fetch that stopped it is blamed on comes last.
 pub struct Pipeline {
     pub settings: Settings,
     pub predicted: u64,
@@ -79,4 +80,5 @@ pub struct Pipeline {
     pub cycles: u64,
     pub kinds: Kinds,
     pub kept: Kept,
+    pub blame: Blame,
 }

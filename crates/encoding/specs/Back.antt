@@ -7,12 +7,13 @@ use native.Mathlib.Nat.{div-add-mod', pow-suc}
 use native.Mathlib.Omega.{arith}
 use lib.Dec.{T, leb, ltb, eqb, eqb→eq, ltb→lt}
 use lib.ListN.{length, getD, take, drop, length-append}
-use lib.Seq.{take-at, append-snoc, getD-append-seam, drop-append-seam}
+use lib.Seq.{take-at, take-length, append-snoc, getD-append-seam, drop-append-seam}
 use borrow.Author.Tests.{leb-false, ltb-false, ne-eqb, le-ltb, lt-ltb}
 use Rattle.machine.specs.declared.Instruction.{Instruction}
 use Rattle.machine.specs.declared.Status.the-variants.{Aok as aok, Hlt as hlt}
+use Rattle.machine.specs.declared.Fault.the-variants.{NoFault as noFault}
 use Rattle.machine.specs.Words.{sum, number}
-use Rattle.machine.specs.Memory.{lent}
+use Rattle.machine.specs.Memory.{lent, codeEnd}
 use Rattle.machine.specs.Table.{Row, RegisterByte, noByte, bothNamed, onlyB, onlyA, table, rowOf}
 use Rattle.machine.specs.Fetch.{sizeAt, ownBytes, stopping, namesA, namesB, half, misnamed, checked, constantIn, parsed, fetch}
 use Rattle.laws.specs.Tests.{neither}
@@ -38,6 +39,7 @@ instructionAt a i =
       rb = i .rb;
       constant = i .constant;
       next = sum a (rowOf (i .code) .size);
+      fault = noFault;
     })
 
 -- THE BYTES, read as a fetch reads them
@@ -149,6 +151,7 @@ taken a n i =
       rb = i .rb;
       constant = i .constant;
       next = sum a (rowOf (i .code) .size);
+      fault = noFault;
     })
 
 parsed-is : (a : ℕ) (b : List ℕ) → parsed a b ≡ taken a (length b) (fieldsIn b)
@@ -201,13 +204,14 @@ module _ (i : Fields) (valid : encodeRefused i ≡ false) (word : i .constant < 
 
   -- the bytes from an address on are the instruction's own
   own : (front rest : List ℕ) → ownBytes (lent (front ++ (form i ++ rest))) (length front) ≡ form i
-  unfolding ownBytes sizeAt
+  unfolding ownBytes sizeAt codeEnd
   own front rest =
       let q : (16 * i .code + i .function) / 16 ≡ i .code = omega (arith, function-small i valid) in
       let s : sizeAt (lent (front ++ (form i ++ rest))) (length front) ≡ rowOf (i .code) .size = ap (λ (x : ℕ). rowOf (x / 16) .size) (first-byte front rest)
       ∙ ap (λ (c : ℕ). rowOf c .size) q in
-      ap (λ (n : ℕ). take n (drop (length front) (front ++ (form i ++ rest)))) s
-      ∙ (ap (take (rowOf (i .code) .size)) (drop-append-seam front (form i ++ rest)) ∙ take-at (form i) rest _ (form-length i))
+      ap (λ (n : ℕ). take n (drop (length front) (take (length (front ++ (form i ++ rest))) (front ++ (form i ++ rest))))) s
+      ∙ (ap (λ (b : List ℕ). take (rowOf (i .code) .size) (drop (length front) b)) (take-length (front ++ (form i ++ rest)))
+      ∙ ap (take (rowOf (i .code) .size)) (drop-append-seam front (form i ++ rest)) ∙ take-at (form i) rest _ (form-length i))
 
   -- wherever the bytes stand
   pub fetched-back : (front rest : List ℕ) → fetch (lent (front ++ (form i ++ rest))) (length front) ≡ instructionAt (length front) (used i)

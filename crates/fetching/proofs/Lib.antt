@@ -1,1 +1,2 @@
+pub mod Blame
 pub mod Parse

@@ -9,10 +9,14 @@ use lib.Dec.{T, eqb, ltb, leb}
 use lib.ListN.{length}
 use Rattle.machine.specs.declared.Status.the-variants.{Aok as aok, Hlt as hlt, Adr as adr, Ins as ins}
 use Rattle.machine.specs.declared.Instruction.{Instruction}
+use Rattle.machine.specs.declared.Fault.{Fault}
+use Rattle.machine.specs.declared.Fault.the-variants.{NoFault as noFault, FirstMissing as firstMissing, NoCode as noCode, NoFunction as noFunction}
+use Rattle.machine.specs.declared.Fault.the-variants.{LaterMissing as laterMissing, NoRegister as noRegister}
+use Rattle.machine.specs.declared.Blame.{Blame}
 use Rattle.machine.specs.Words.{sum, number}
-use Rattle.machine.specs.Memory.{Memory, lent, size, inside, load}
+use Rattle.machine.specs.Memory.{Memory, lent, size, codeEnd, inside, load}
 use Rattle.machine.specs.Table.{rowOf, RegisterByte, noByte, bothNamed, onlyB, onlyA}
-use Rattle.machine.specs.Fetch.{stopping, namesA, namesB, misnamed, half, checked, fetch}
+use Rattle.machine.specs.Fetch.{stopping, notInTable, namesA, namesB, misnamed, half, checked, fetch, blameOf}
 use Rattle.machine.specs.Runs.{sizeRefused, lowest, fetchAnswer}
 use Rattle.published.specs.Lengths.{hasRegisterByte, length-rule, two}
 use Rattle.published.specs.Fetching.{M₁, M₈, aokAt, fetch-is}
@@ -64,26 +68,31 @@ pub room : (z l : ℕ) → not (leb z l) ≡ false → z ≤ l
 room z l h = leb-true z l (not-false (leb z l) h)
 
 -- THE WAYS OUT
-pub outside : (m : Memory) (a : ℕ) (r : Instruction) → size m ≤ a → r ≡ stopping a adr → r ≡ fetch m a
-unfolding checked aokAt
-outside m a r h e = cc (fetch-is m a, le-leb (size m) a h)
+-- n is where the bytes end that the instruction may have
+pub end-lent : (b : List ℕ) (a : ℕ) → length b ≡ codeEnd (lent b) a
+unfolding codeEnd
+end-lent b a = refl
 
-module _ (m : Memory) (a f : ℕ) (h : a < size m) (ef : f ≡ rowOf (codeAt m a) .functions) where
-  pub no-function : (r : Instruction) → not (ltb (M₁ m a % 16) f) ≡ true → r ≡ stopping a ins → r ≡ fetch m a
-  unfolding checked aokAt
-  no-function r p e = cc (fetch-is m a, lt-leb (size m) a h, le-leb f (M₁ m a % 16) (ltb-false (M₁ m a % 16) f (not-true _ p)))
+pub outside : (m : Memory) (a n : ℕ) (r : Instruction) → n ≡ codeEnd m a → n ≤ a → r ≡ stopping a adr firstMissing → r ≡ fetch m a
+unfolding checked aokAt
+outside m a n r en h e = cc (fetch-is m a, le-leb n a h)
+
+module _ (m : Memory) (a n f : ℕ) (en : n ≡ codeEnd m a) (h : a < n) (ef : f ≡ rowOf (codeAt m a) .functions) where
+  pub no-function : (r : Instruction) (t : Fault) → not (ltb (M₁ m a % 16) f) ≡ true → t ≡ cond (eqb f 0) noCode noFunction → r ≡ stopping a ins t → r ≡ fetch m a
+  unfolding checked notInTable aokAt
+  no-function r t p et e = cc (fetch-is m a, lt-leb n a h, le-leb f (M₁ m a % 16) (ltb-false (M₁ m a % 16) f (not-true _ p)))
 
   module _ (z : ℕ) (p : not (ltb (M₁ m a % 16) f) ≡ false) (ez : z ≡ rowOf (codeAt m a) .size) where
     in-table : leb f (M₁ m a % 16) ≡ false
     in-table = lt-leb f (M₁ m a % 16) (ltb-true (M₁ m a % 16) f (not-false _ p))
 
-    pub cut-short : (r : Instruction) → not (leb z (size m - a)) ≡ true → r ≡ stopping a adr → r ≡ fetch m a
+    pub cut-short : (r : Instruction) → not (leb z (n - a)) ≡ true → r ≡ stopping a adr laterMissing → r ≡ fetch m a
     unfolding checked aokAt
     cut-short r q e =
-        let short = leb-false z (size m - a) (not-true _ q) in
-        cc (fetch-is m a, lt-leb (size m) a h, in-table, lt-ltb (size m) (a + z) (omega arith))
+        let short = leb-false z (n - a) (not-true _ q) in
+        cc (fetch-is m a, lt-leb n a h, in-table, lt-ltb n (a + z) (omega arith))
 
-    module _ (y b : ℕ) (t : Bool) (q : not (leb z (size m - a)) ≡ false) (ey : y ≡ byteNumber (rowOf (codeAt m a) .byte))
+    module _ (y b : ℕ) (t : Bool) (q : not (leb z (n - a)) ≡ false) (ey : y ≡ byteNumber (rowOf (codeAt m a) .byte))
         (eb : b ≡ filledBy y (M₁ m (a + 1))) (et : t ≡ misnamedBy y (b / 16) (b % 16)) where
       high-is : b / 16 ≡ aokAt m a (codeAt m a) .ra
       unfolding aokAt
@@ -96,28 +105,28 @@ module _ (m : Memory) (a f : ℕ) (h : a < size m) (ef : f ≡ rowOf (codeAt m a
       tested : misnamed (rowOf (codeAt m a) .byte) (aokAt m a (codeAt m a) .ra) (aokAt m a (codeAt m a) .rb) ≡ t
       tested = cc (misnamed-by (rowOf (codeAt m a) .byte) (b / 16) (b % 16), high-is, low-is)
 
-      long : ltb (size m) (a + rowOf (codeAt m a) .size) ≡ false
-      long = le-ltb (size m) (a + rowOf (codeAt m a) .size) (omega (arith, room z (size m - a) q))
+      long : ltb n (a + rowOf (codeAt m a) .size) ≡ false
+      long = le-ltb n (a + rowOf (codeAt m a) .size) (omega (arith, room z (n - a) q))
 
       -- the checks that are passed
       through : fetch m a ≡ checked false false false t (eqb (codeAt m a) 0) (aokAt m a (codeAt m a))
       unfolding aokAt
       through =
-          fetch-is m a ∙ rw (lt-leb (size m) a h, ← ef, in-table, long)
+          fetch-is m a ∙ rw (← en, lt-leb n a h, ← ef, in-table, long)
           (ap (λ (x : Bool). checked false false false x (eqb (codeAt m a) 0) (aokAt m a (codeAt m a))) tested)
 
-      pub names-none : (r : Instruction) → t ≡ true → r ≡ stopping a ins → r ≡ fetch m a
+      pub names-none : (r : Instruction) → t ≡ true → r ≡ stopping a ins noRegister → r ≡ fetch m a
       unfolding checked aokAt
       names-none r k e = cc through
 
-      pub halts : (r : Instruction) → t ≡ false → codeAt m a ≡ 0 → r ≡ stopping a hlt → r ≡ fetch m a
+      pub halts : (r : Instruction) → t ≡ false → codeAt m a ≡ 0 → r ≡ stopping a hlt noFault → r ≡ fetch m a
       unfolding checked aokAt
       halts r k o e = cc (through, eq-eqb (codeAt m a) 0 o)
 
-      pub fetches : (c n : ℕ) → t ≡ false → (codeAt m a ≡ 0 → ⊥) → c ≡ cond (ltb 8 z) (M₈ m (a + (z - 8))) 0 → n ≡ sum a z
-          → record { address = a; status = aok; code = codeAt m a; function = M₁ m a % 16; ra = b / 16; rb = b % 16; constant = c; next = n } ≡ fetch m a
+      pub fetches : (c next : ℕ) → t ≡ false → (codeAt m a ≡ 0 → ⊥) → c ≡ cond (ltb 8 z) (M₈ m (a + (z - 8))) 0 → next ≡ sum a z
+          → record { address = a; status = aok; code = codeAt m a; function = M₁ m a % 16; ra = b / 16; rb = b % 16; constant = c; next = next; fault = noFault } ≡ fetch m a
       unfolding checked aokAt
-      fetches c n k o ec en = cc (through, ne-eqb (codeAt m a) 0 o, high-is, low-is)
+      fetches c next k o ec en = cc (through, ne-eqb (codeAt m a) 0 o, high-is, low-is)
 
 -- THE CONSTANT, loaded from inside an instruction that is whole
 pub constant-there : (b : List ℕ) (at n c : ℕ) → at + n ≤ length b → 8 < n → c ≡ load (lent b) (at + (n - 8))
@@ -129,12 +138,12 @@ pub no-constant : (b : List ℕ) (at n : ℕ) → n ≤ 8 → 0 ≡ cond (ltb 8 
 no-constant b at n short = cc (le-ltb 8 n short)
 
 -- THE OPEN ENTRY
-pub refused : (m : Memory) (a : ℕ) (t : Bool) (i : Instruction) → t ≡ sizeRefused (size m) → t ≡ true → i ≡ stopping a adr
-    → record { number = 1; instruction = i } ≡ fetchAnswer m a
+pub refused : (m : Memory) (a : ℕ) (t : Bool) (i : Instruction) (x : Blame) → t ≡ sizeRefused (size m) → t ≡ true → i ≡ stopping a adr firstMissing → x ≡ blameOf m i
+    → record { number = 1; instruction = i; blame = x } ≡ fetchAnswer m a
 unfolding fetchAnswer lowest
-refused m a t i e h s = cc
+refused m a t i x e h s b = cc
 
-pub answered : (m : Memory) (a : ℕ) (t : Bool) (i : Instruction) → t ≡ sizeRefused (size m) → t ≡ false → i ≡ fetch m a
-    → record { number = 0; instruction = i } ≡ fetchAnswer m a
+pub answered : (m : Memory) (a : ℕ) (t : Bool) (i : Instruction) (x : Blame) → t ≡ sizeRefused (size m) → t ≡ false → i ≡ fetch m a → x ≡ blameOf m i
+    → record { number = 0; instruction = i; blame = x } ≡ fetchAnswer m a
 unfolding fetchAnswer lowest
-answered m a t i e h s = cc
+answered m a t i x e h s b = cc

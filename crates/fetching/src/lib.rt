@@ -7,6 +7,8 @@ use lookup::numbers::NO_BYTE;
 use lookup::numbers::ONLY_A;
 use lookup::numbers::ONLY_B;
 use lookup::size_of;
+use machine::Blame;
+use machine::Fault;
 use machine::FetchAnswer;
 use machine::HALT;
 use machine::Instruction;
@@ -20,13 +22,14 @@ ghost use lib.Dec.{eqb, ltb};
 ghost use lib.ListN.{length, getD};
 ghost use Rattle.machine.specs.Memory.{lent};
 ghost use Rattle.machine.specs.Words.{number};
-ghost use Rattle.machine.specs.Fetch.{fetch as fetchOf, stopping as stoppingOf};
+ghost use Rattle.machine.specs.declared.Fault.the-variants.{NoCode as noCode, NoFunction as noFunction};
+ghost use Rattle.machine.specs.Fetch.{fetch as fetchOf, stopping as stoppingOf, faultAt, blameOf};
 ghost use Rattle.machine.specs.Runs.{fetchAnswer};
 ghost use Rattle.fetching.specs.Halves.{misnamedBy, filledBy};
 
-// An instruction fetched with a bad status travels as a nop with that status.
-fn stopping(address: u64, status: Status) -> Instruction
-    ensures { λ r. ⌜ r ≡ stoppingOf address status ⌝ }
+// An instruction fetched with a bad status travels as a nop with that status and its reason.
+fn stopping(address: u64, status: Status, fault: Fault) -> Instruction
+    ensures { λ r. ⌜ r ≡ stoppingOf address status fault ⌝ }
 {
     Instruction {
         address,
@@ -37,7 +40,18 @@ fn stopping(address: u64, status: Status) -> Instruction
         rb: NONE,
         constant: 0,
         next: address,
+        fault,
     }
+}
+
+// Of a code without functions the code is at fault, of any other the function.
+fn not_in_table(functions: u8) -> Fault
+    ensures { λ r. ⌜ r ≡ cond (eqb functions 0) noCode noFunction ⌝ }
+{
+    if functions == 0 {
+        return Fault::NoCode;
+    }
+    Fault::NoFunction
 }
 
 // A named register that is 15.
@@ -96,30 +110,32 @@ pub fn instruction_at(memory: &[u8], address: u64) -> Instruction
 {
     let n = memory.len() as u64;
     if n <= address {
-        return stopping(address, Status::Adr); // no first byte
+        return stopping(address, Status::Adr, Fault::FirstMissing);
     }
     let at = address as usize;
     let first = memory[at];
     let code = first / 16;
     let function = first % 16;
-    let known = function < functions_of(code);
+    let functions = functions_of(code);
+    let known = function < functions;
     let size = size_of(code);
     let whole = size as u64 <= n - address;
+    let unknown = not_in_table(functions);
     if !known {
-        return stopping(address, Status::Ins); // code or function
+        return stopping(address, Status::Ins, unknown);
     }
     if !whole {
-        return stopping(address, Status::Adr); // a later byte
+        return stopping(address, Status::Adr, Fault::LaterMissing);
     }
     let byte = byte_of(code);
     let pair = register_byte(memory, at, byte);
     let ra = pair / 16;
     let rb = pair % 16;
     if misnamed(byte, ra, rb) {
-        return stopping(address, Status::Ins); // a register
+        return stopping(address, Status::Ins, Fault::NoRegister);
     }
     if code == HALT {
-        return stopping(address, Status::Hlt);
+        return stopping(address, Status::Hlt, Fault::NoFault);
     }
     Instruction {
         address,
@@ -130,6 +146,32 @@ pub fn instruction_at(memory: &[u8], address: u64) -> Instruction
         rb,
         constant: constant_of(memory, at, size),
         next: word::sum(address, size as u64),
+        fault: Fault::NoFault,
+    }
+}
+
+// The byte at fault: the lowest missing address, the first byte, or the register byte.
+fn fault_at(memory: &[u8], address: u64, fault: Fault) -> u64
+    ensures { λ r. ⌜ r ≡ faultAt (lent (now (memory .entry))) address fault ⌝ }
+{
+    match fault {
+        Fault::NoFault => 0,
+        Fault::FirstMissing => address,
+        Fault::NoCode => address,
+        Fault::NoFunction => address,
+        Fault::LaterMissing => memory.len() as u64,
+        Fault::NoRegister => word::sum(address, 1),
+    }
+}
+
+// What a bad fetch is blamed on, worked out where it stops: only the reason travels with the instruction.
+pub fn blame_of(memory: &[u8], i: Instruction) -> Blame
+    ensures { λ r. ⌜ r ≡ blameOf (lent (now (memory .entry))) i ⌝ }
+{
+    let fault = i.fault;
+    Blame {
+        fault,
+        address: fault_at(memory, i.address, fault),
     }
 }
 
@@ -138,13 +180,17 @@ pub fn fetch(memory: &[u8], address: u64) -> FetchAnswer
     ensures { λ r. ⌜ r ≡ fetchAnswer (lent (now (memory .entry))) address ⌝ }
 {
     if size_refused(memory.len()) {
+        let missing = stopping(address, Status::Adr, Fault::FirstMissing);
         return FetchAnswer {
             number: 1,
-            instruction: stopping(address, Status::Adr),
+            instruction: missing,
+            blame: blame_of(memory, missing),
         };
     }
+    let instruction = instruction_at(memory, address);
     FetchAnswer {
         number: 0,
-        instruction: instruction_at(memory, address),
+        instruction,
+        blame: blame_of(memory, instruction),
     }
 }

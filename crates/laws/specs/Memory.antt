@@ -9,7 +9,7 @@ use lib.Dec.{ltb, leb}
 use lib.ListN.{length, getD, set, length-set}
 use lib.Seq.{getD-set-other}
 use Rattle.machine.specs.Words.{placed}
-use Rattle.machine.specs.Memory.{Memory, lent, size, inside, store}
+use Rattle.machine.specs.Memory.{Memory, lent, size, codeEnd, inside, store}
 
 pub length-placed : (k : ℕ) (b : List ℕ) (a v : ℕ) → length (placed k b a v) ≡ length b
 unfolding placed
@@ -32,6 +32,11 @@ module _ (m : Memory) (a v : ℕ) where
       go : (c : Bool) → size (cond c (lent (placed 8 (m .bytes) a v)) m) ≡ size m
       go true = length-placed 8 (m .bytes) a v
       go false = refl
+
+  -- and where an instruction's bytes end
+  pub code-end-stored : (b : ℕ) → codeEnd (store m a v) b ≡ codeEnd m b
+  unfolding codeEnd
+  code-end-stored b = size-stored
 
   -- and each byte that is none of its eight
   pub byte-stored : (x : ℕ) → (inside m a && (leb a x && ltb x (a + 8)) ≡ true → ⊥) → getD (store m a v .bytes) x 0 ≡ getD (m .bytes) x 0

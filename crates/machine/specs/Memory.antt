@@ -18,6 +18,10 @@ lent b = record { bytes = b }
 abbrev pub size : Memory → ℕ
 size m = length (m .bytes)
 
+-- where the bytes end that an instruction at a may have: at N
+unfoldable pub codeEnd : Memory → ℕ → ℕ
+codeEnd m a = size m
+
 -- "Fifteen registers of 64 bits, 0 to 14": the list of their values, of the length that the record's array has
 abbrev pub Registers : Type 0
 Registers = List ℕ

@@ -4,7 +4,7 @@ use mathlib.Core.Bool.{Bool, cond}
 use mathlib.Core.List.{List, [], _∷_, _++_}
 use Rattle.machine.specs.Types.{Machine, Instruction, Decoded, Executed, Accessed, Codes, Status, aok, isBad}
 use Rattle.machine.specs.Memory.{Memory, Registers, value}
-use Rattle.machine.specs.Fetch.{fetch}
+use Rattle.machine.specs.Fetch.{fetch, blameOf, noBlame}
 use Rattle.machine.specs.Stages.{decode, execute, access, newCodes, newMemory, newRegisters, nextAddress}
 
 -- the machine record, its memory, and the addresses logged so far
@@ -15,7 +15,7 @@ pub record Plain : Type 0 where
 
 -- a fresh start: nothing performed, and the last address is the start address
 unfoldable pub plainStart : Registers → Codes → ℕ → Machine
-plainStart r c a = record { registers = r; codes = c; address = a; status = aok; last = a; count = 0 }
+plainStart r c a = record { registers = r; codes = c; address = a; status = aok; last = a; count = 0; blame = noBlame }
 
 abbrev pub plainOf : Machine → Memory → Plain
 plainOf k m = record { machine = k; memory = m; log = [] }
@@ -48,13 +48,14 @@ performed s =
             status = aok;
             last = s .machine .address;
             count = s .machine .count + 1;
+            blame = s .machine .blame;
           };
       memory = newMemory (executed s) (s .memory);
       log = s .log ++ s .machine .address ∷ [];
     }
 
 -- "An instruction whose status isn't AOK is the stopping one. It counts as performed, changes no register, memory byte or code,
--- and its own address is the last address." "The program address stays too."
+-- and its own address is the last address." "The program address stays too." "Both engines carry the reason to the stopping answer" (02, #107)
 unfoldable pub stoppedBy : Plain → Status → Plain
 stoppedBy s bad =
     record {
@@ -66,6 +67,7 @@ stoppedBy s bad =
             status = bad;
             last = s .machine .address;
             count = s .machine .count + 1;
+            blame = blameOf (s .memory) (fetched s);
           };
       memory = s .memory;
       log = s .log ++ s .machine .address ∷ [];

@@ -4,9 +4,9 @@ use mathlib.Core.Bool.{Bool, false, cond, _||_}
 use mathlib.Core.List.{List, [], _∷_}
 use lib.Dec.{ltb, leb, eqb}
 use lib.ListN.{length}
-use Rattle.machine.specs.Types.{Machine, Codes, FetchAnswer, adr}
+use Rattle.machine.specs.Types.{Machine, Codes, FetchAnswer, adr, firstMissing}
 use Rattle.machine.specs.Memory.{Memory, size, Registers}
-use Rattle.machine.specs.Fetch.{fetch, stopping}
+use Rattle.machine.specs.Fetch.{fetch, blameOf, stopping}
 use Rattle.machine.specs.Plain.{Plain, plainOf, plainStart, steps}
 
 -- "The caller lends a log of 64-bit words"; "place k-1 takes the k-th retirement of the call, the rest stays."
@@ -42,7 +42,8 @@ lowest (t ∷ ts) = cond (t .1) (t .0) (lowest ts)
 unfoldable pub fetchAnswer : Memory → ℕ → FetchAnswer
 fetchAnswer m a =
     let n = lowest ((1, sizeRefused (size m)) ∷ []) in
-    record { number = n; instruction = cond (eqb n 0) (fetch m a) (stopping a adr) }
+    let i = cond (eqb n 0) (fetch m a) (stopping a adr firstMissing) in
+    record { number = n; instruction = i; blame = blameOf m i }
 
 -- A FRESH START: 6 is "checked last". Refused, it gives back the record that was asked for, as it gives it back otherwise
 unfoldable pub startRefusal : (size address : ℕ) → ℕ

@@ -3,6 +3,10 @@ use Prim.Native.Nat.{ℕ, _+_, _*_}
 use mathlib.Core.Bool.{Bool, true, false, cond}
 pub use Rattle.machine.specs.declared.Status.{Status}
 pub use Rattle.machine.specs.declared.Status.the-variants.{Aok as aok, Hlt as hlt, Adr as adr, Ins as ins}
+pub use Rattle.machine.specs.declared.Fault.{Fault}
+pub use Rattle.machine.specs.declared.Fault.the-variants.{NoFault as noFault, FirstMissing as firstMissing, NoCode as noCode, NoFunction as noFunction}
+pub use Rattle.machine.specs.declared.Fault.the-variants.{LaterMissing as laterMissing, NoRegister as noRegister}
+pub use Rattle.machine.specs.declared.Blame.{Blame}
 pub use Rattle.machine.specs.declared.Codes.{Codes}
 pub use Rattle.machine.specs.declared.Machine.{Machine}
 pub use Rattle.machine.specs.declared.Instruction.{Instruction}
@@ -24,6 +28,15 @@ isBad aok = false
 isBad hlt = true
 isBad adr = true
 isBad ins = true
+
+-- "the reason (first byte missing, code, function, later byte missing, register)" (02, #107), in this order from 1; none is 0
+unfoldable pub faultNumber : Fault → ℕ
+faultNumber noFault = 0
+faultNumber firstMissing = 1
+faultNumber noCode = 2
+faultNumber noFunction = 3
+faultNumber laterMissing = 4
+faultNumber noRegister = 5
 
 -- "codes as 4ZF + 2SF + OF"
 unfoldable pub codesNumber : Codes → ℕ

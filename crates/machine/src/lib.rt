@@ -37,6 +37,22 @@ pub enum Status {
     Ins,
 }
 
+// Why a fetch failed, if it did: document 02's reasons (#107).
+pub enum Fault {
+    NoFault,
+    FirstMissing,
+    NoCode,
+    NoFunction,
+    LaterMissing,
+    NoRegister,
+}
+
+// The reason of a failed fetch, and the address of the byte at fault: none, and 0, where no fetch failed.
+pub struct Blame {
+    pub fault: Fault,
+    pub address: u64,
+}
+
 // The condition codes ZF, SF and OF.
 pub struct Codes {
     pub zf: bool,
@@ -44,7 +60,7 @@ pub struct Codes {
     pub of: bool,
 }
 
-// The plain engine's machine record.
+// The plain engine's machine record; what a bad fetch that stopped it is blamed on comes last.
 pub struct Machine {
     pub registers: [u64; REGISTERS],
     pub codes: Codes,
@@ -52,9 +68,10 @@ pub struct Machine {
     pub status: Status,
     pub last: u64,
     pub count: u64,
+    pub blame: Blame,
 }
 
-// An instruction as it was fetched: where it stands, its status at fetch, its fields, and the address that follows it.
+// An instruction as it was fetched: where it stands, its status at fetch, its fields, the address that follows it, and why its fetch failed.
 pub struct Instruction {
     pub address: u64,
     pub status: Status,
@@ -64,12 +81,14 @@ pub struct Instruction {
     pub rb: u8,
     pub constant: u64,
     pub next: u64,
+    pub fault: Fault,
 }
 
-// What fetching answers: document 01's number, 0 or that of a refusal, and the instruction.
+// What fetching answers: document 01's number, 0 or that of a refusal, the instruction, and what a bad fetch is blamed on.
 pub struct FetchAnswer {
     pub number: u64,
     pub instruction: Instruction,
+    pub blame: Blame,
 }
 
 // What stands in E: an instruction with the values of its two sources.

@@ -15,6 +15,7 @@ use Rattle.answers.specs.Logs.{laid-more, laid-length}
 use Rattle.clocked.specs.declared.Settings.{Settings}
 use Rattle.clocked.specs.declared.Pipeline.{Pipeline}
 use Rattle.machine.specs.declared.Status.{Status}
+use Rattle.machine.specs.declared.Blame.{Blame}
 use Rattle.clocked.specs.declared.Kinds.{Kinds}
 use Rattle.clocked.specs.declared.Kept.{Kept}
 use Rattle.clocked.specs.declared.StageW.{StageW}
@@ -32,7 +33,7 @@ use Rattle.retiring.specs.declared.Tally.{Tally}
 use Rattle.retiring.specs.Retiring.{Small, retires, statusAfter, tallyAfter}
 use Rattle.flow.specs.declared.Flow.{Flow}
 use Rattle.flow.specs.Moving.{aheadOf, shiftedOf, flowAfter}
-use Rattle.pipe.specs.Parts.{flowOf, tallyOf, whole, noted}
+use Rattle.pipe.specs.Parts.{flowOf, tallyOf, whole, blameIn, noted}
 use Rattle.pipe.proofs.Clocks.{piped, after, bad-after, stops, goes}
 
 laid-noted : (w : StageW) (es log : List ℕ) (x : ℕ) → noted (retires w) (length es) x (laid es log) ≡ laid (es ++ logged w x) log
@@ -99,11 +100,11 @@ small-enough n t h s = record { retired = omega arith; cycles = omega arith; loa
 
 -- FROM CLOCK TO CLOCK
 -- after n clocks of a run from p₀ that began with first retirements and the logs a₀ and y₀
-pub record Here (s : Settings) (p₀ : Piped) (first : ℕ) (a₀ y₀ : List ℕ) (n : ℕ) (f : Flow) (t : Tally) (x : Status) (r : List ℕ) (m : Memory) (a y : List ℕ) :
-    Type 0 where
+pub record Here (s : Settings) (p₀ : Piped) (first : ℕ) (a₀ y₀ : List ℕ) (n : ℕ) (f : Flow) (t : Tally) (x : Status) (r : List ℕ) (z : Blame)
+    (m : Memory) (a y : List ℕ) : Type 0 where
   pub entries : List ℕ
   pub times : List ℕ
-  pub state : clocks (coreOf s) p₀ n ≡ piped (whole s f t x r) m entries times
+  pub state : clocks (coreOf s) p₀ n ≡ piped (whole s f t x r z) m entries times
   pub addresses : a ≡ laid entries a₀
   pub cycles : y ≡ laid times y₀
   pub entered : first + length entries ≡ t .retired
@@ -112,9 +113,9 @@ pub record Here (s : Settings) (p₀ : Piped) (first : ℕ) (a₀ y₀ : List �
   pub ahead : f .ahead ≡ aheadOf (coreOf s) (f .m) (f .w)
   pub long : length r ≡ 15
 
-pub here-first : {f : Flow} {t : Tally} {x : Status} {r : List ℕ} {m : Memory} {a y : List ℕ} (k : Pipeline) → f ≡ flowOf k
+pub here-first : {f : Flow} {t : Tally} {x : Status} {r : List ℕ} {z : Blame} {m : Memory} {a y : List ℕ} (k : Pipeline) → f ≡ flowOf k
     → length r ≡ 15 → t ≡ tallyOf k → countsRefused k ≡ false → k .cycles ≤ pipeLimit
-    → Here (k .settings) (pipedOf (whole (k .settings) f t x r) m) (k .retired) a y 0 f t x r m a y
+    → Here (k .settings) (pipedOf (whole (k .settings) f t x r z) m) (k .retired) a y 0 f t x r z m a y
 unfolding clocks laid flowOf tallyOf
 here-first k i l e h c =
     record {
@@ -131,16 +132,16 @@ here-first k i l e h c =
     }
 
 -- one clock more of a machine that has not stopped; b, q and v are what the code found bad, retiring and bad in W
-module _ {s : Settings} {p₀ : Piped} {first : ℕ} {a₀ y₀ : List ℕ} {n : ℕ} {f : Flow} {t t′ : Tally} {x x′ : Status} {r : List ℕ} {m : Memory}
-    {a y a′ y′ : List ℕ} {b q v : Bool}
-    (h : Here s p₀ first a₀ y₀ n f t x r m a y) (eb : b ≡ isBad x) (good : b ≡ false) (eq : q ≡ retires (f .w)) (et : t′ ≡ tallyAfter (coreOf s) t (f .w))
+module _ {s : Settings} {p₀ : Piped} {first : ℕ} {a₀ y₀ : List ℕ} {n : ℕ} {f : Flow} {t t′ : Tally} {x x′ : Status} {r : List ℕ} {z : Blame}
+    {m : Memory} {a y a′ y′ : List ℕ} {b q v : Bool}
+    (h : Here s p₀ first a₀ y₀ n f t x r z m a y) (eb : b ≡ isBad x) (good : b ≡ false) (eq : q ≡ retires (f .w)) (et : t′ ≡ tallyAfter (coreOf s) t (f .w))
     (ex : x′ ≡ statusAfter (f .w))
     (ea : a′ ≡ noted q (t .retired - first) (t′ .last) a) (ey : y′ ≡ noted q (t .retired - first) (t′ .cycles) y) (ev : v ≡ badInW (f .w)) where
-  here-after : (f′ : Flow) (r′ : List ℕ) (m′ : Memory)
-      → clock (coreOf s) (piped (whole s f t x r) m (h .entries) (h .times)) ≡ after s t (h .entries) (h .times) (f .w) f′ r′ m′
-      → f′ .ahead ≡ aheadOf (coreOf s) (f′ .m) (f′ .w) → length r′ ≡ 15 → Here s p₀ first a₀ y₀ (n + 1) f′ t′ x′ r′ m′ a′ y′
+  here-after : (f′ : Flow) (r′ : List ℕ) (z′ : Blame) (m′ : Memory)
+      → clock (coreOf s) (piped (whole s f t x r z) m (h .entries) (h .times)) ≡ after s t (h .entries) (h .times) (f .w) f′ r′ z′ m′
+      → f′ .ahead ≡ aheadOf (coreOf s) (f′ .m) (f′ .w) → length r′ ≡ 15 → Here s p₀ first a₀ y₀ (n + 1) f′ t′ x′ r′ z′ m′ a′ y′
   unfolding clocks tallyAfter
-  here-after f′ r′ m′ e i l =
+  here-after f′ r′ z′ m′ e i l =
       let at : t .retired - first ≡ length (h .entries) = omega (arith, h .entered) in
       let at-time : t .retired - first ≡ length (h .times) = omega (arith, h .timed) in
       let more : 262146 + (n + 1) * 3 ≡ 262146 + n * 3 + 3 = omega arith in
@@ -158,23 +159,23 @@ module _ {s : Settings} {p₀ : Piped} {first : ℕ} {a₀ y₀ : List ℕ} {n :
       }
 
   pub here-next : {f′ : Flow} {r′ : List ℕ} {m′ : Memory} → v ≡ false → f′ ≡ flowAfter (coreOf s) f r m → r′ ≡ registersAfter (f .w) r → m′ ≡ memoryAfter (f .m) m
-      → Here s p₀ first a₀ y₀ (n + 1) f′ t′ x′ r′ m′ a′ y′
+      → Here s p₀ first a₀ y₀ (n + 1) f′ t′ x′ r′ z m′ a′ y′
   unfolding flowAfter shiftedOf
-  here-next w ef er em = rw (ef, er, em) (here-after _ _ _ (goes s f t x r m (h .entries) (h .times) (cc) (cc)) refl (length-after-w (f .w) r ∙ h .long))
+  here-next w ef er em = rw (ef, er, em) (here-after _ _ _ _ (goes s f t x r z m (h .entries) (h .times) (cc) (cc)) refl (length-after-w (f .w) r ∙ h .long))
 
-  pub here-stopped : v ≡ true → Here s p₀ first a₀ y₀ (n + 1) f t′ x′ r m a′ y′ × (isBad x′ ≡ true)
-  here-stopped w = (here-after f r m (stops s f t x r m (h .entries) (h .times) (cc) (cc)) (h .ahead) (h .long), cc (bad-after (f .w)))
+  pub here-stopped : {z′ : Blame} → v ≡ true → z′ ≡ blameIn (f .w) m → Here s p₀ first a₀ y₀ (n + 1) f t′ x′ r z′ m a′ y′ × (isBad x′ ≡ true)
+  here-stopped w ez = (rw ez (here-after f r _ m (stops s f t x r z m (h .entries) (h .times) (cc) (cc)) (h .ahead) (h .long)), cc (bad-after (f .w)))
 
 -- THE END
 pub same-start : {k : Pipeline} {f : Flow} {t : Tally} {m : Memory} → f ≡ flowOf k → t ≡ tallyOf k
-    → pipedOf (whole (k .settings) f t (k .status) (k .registers)) m ≡ pipedOf k m
+    → pipedOf (whole (k .settings) f t (k .status) (k .registers) (k .blame)) m ≡ pipedOf k m
 unfolding whole flowOf tallyOf
 same-start ef et = rw (ef, et)
 
 -- by each way out of the loop the variables primed are those that it left
 module _ {s : Settings} {p₀ : Piped} {k : Pipeline} {m₀ : Memory} {first : ℕ} {a₀ y₀ : List ℕ} {n : ℕ} {f : Flow} {t t′ : Tally} {x x′ : Status}
-    {r : List ℕ} {m : Memory} {a y a′ y′ : List ℕ} {p : Pipeline} (budget : ℕ) (from : p₀ ≡ pipedOf k m₀) (h : Here s p₀ first a₀ y₀ n f t x r m a y)
-    (to : p ≡ whole s f t′ x′ r) (ea : a′ ≡ a) (ey : y′ ≡ y) (et : t′ ≡ t) (ex : x′ ≡ x) where
+    {r : List ℕ} {z z′ : Blame} {m : Memory} {a y a′ y′ : List ℕ} {p : Pipeline} (budget : ℕ) (from : p₀ ≡ pipedOf k m₀)
+    (h : Here s p₀ first a₀ y₀ n f t x r z m a y) (to : p ≡ whole s f t′ x′ r z′) (ez : z′ ≡ z) (ea : a′ ≡ a) (ey : y′ ≡ y) (et : t′ ≡ t) (ex : x′ ≡ x) where
   pub at-budget : n ≡ budget → pipeAnswer 0 p m a′ y′ ≡ pipeDone (clocks (coreOf s) (pipedOf k m₀) budget) a₀ y₀
   unfolding pipeDone
   at-budget e = cc

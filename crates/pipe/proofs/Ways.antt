@@ -5,6 +5,8 @@ use mathlib.Core.List.{List}
 use Prim.Native.Nat.{ℕ}
 use lib.Dec.{eqb, ltb, leb}
 use lib.ListN.{set}
+use Rattle.machine.specs.declared.Fault.the-variants.{NoFault as noFault}
+use Rattle.machine.specs.declared.Blame.{Blame}
 use Rattle.machine.specs.declared.Instruction.{Instruction}
 use Rattle.machine.specs.declared.Decoded.{Decoded}
 use Rattle.machine.specs.declared.Executed.{Executed}
@@ -22,7 +24,9 @@ use Rattle.clocked.specs.declared.StageW.{StageW}
 use Rattle.clocked.specs.declared.StageW.the-variants.{BubbleW as bubbleW, InW as inW}
 use Rattle.clocked.specs.declared.Kept.{Kept}
 use Rattle.clocked.specs.declared.Kept.the-variants.{NoneKept as noneKept, LastKept as lastKept}
+use Rattle.machine.specs.Memory.{Memory}
 use Rattle.machine.specs.Table.{rowOf, is}
+use Rattle.machine.specs.Fetch.{blameOf, noBlame}
 use Rattle.clocked.specs.Prediction.{coreOf}
 use Rattle.clocked.specs.Pipeline.{wrong}
 use Rattle.clocked.specs.PipeRuns.{instructionRefused, refusedInD, refusedInE, refusedInM, refusedInW, refusedKept}
@@ -31,7 +35,7 @@ use Rattle.clocked.specs.PipeRuns.{countsRefused, settingsRefused, recordRefuse
 use Rattle.stage.specs.declared.forwarding.Targets.{Targets}
 use Rattle.stage.specs.Forwarding.{targetsM, targetsW}
 use Rattle.flow.specs.Moving.{aheadOf}
-use Rattle.pipe.specs.Parts.{flowOf, noted, refusalBy}
+use Rattle.pipe.specs.Parts.{flowOf, blameIn, noted, refusalBy}
 
 -- REFUSALS
 pub instruction-is : (i : Instruction) (n : ℕ) → n ≡ rowOf (i .code) .functions
@@ -152,3 +156,12 @@ pub flow-of-record : (p : Pipeline) (t u : Targets) (b : Bool) → t ≡ targets
     → record { predicted = p .predicted; d = p .d; e = p .e; m = p .m; w = p .w; codes = p .codes; ahead = record { m = t; w = u; wrong = b } } ≡ flowOf p
 unfolding flowOf aheadOf
 flow-of-record p t u b e f h = cc
+
+-- WHAT STOPPED IT
+pub no-blame : (w : StageW) (m : Memory) → w ≡ bubbleW → record { fault = noFault; address = 0 } ≡ blameIn w m
+unfolding blameIn noBlame
+no-blame w m h = cc
+
+pub blame-in-w : (w : StageW) (m : Memory) (x : Accessed) (z : Blame) → w ≡ inW x → z ≡ blameOf m (x .instruction) → z ≡ blameIn w m
+unfolding blameIn
+blame-in-w w m x z h e = cc

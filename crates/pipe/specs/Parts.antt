@@ -6,7 +6,11 @@ use lib.Dec.{eqb}
 use lib.ListN.{length, set}
 use Rattle.clocked.specs.declared.Settings.{Settings}
 use Rattle.clocked.specs.declared.Pipeline.{Pipeline}
+use Rattle.clocked.specs.declared.StageW.{StageW}
+use Rattle.clocked.specs.declared.StageW.the-variants.{BubbleW as bubbleW, InW as inW}
 use Rattle.machine.specs.declared.Status.{Status}
+use Rattle.machine.specs.declared.Blame.{Blame}
+use Rattle.machine.specs.Fetch.{blameOf, noBlame}
 use Rattle.machine.specs.Memory.{Memory, size, Registers}
 use Rattle.clocked.specs.Prediction.{coreOf}
 use Rattle.clocked.specs.Pipeline.{pipedOf, clocks}
@@ -35,8 +39,8 @@ unfoldable pub tallyOf : Pipeline → Tally
 tallyOf p = record { last = p .last; retired = p .retired; cycles = p .cycles; kinds = p .kinds; kept = p .kept }
 
 -- the record put together again
-unfoldable pub whole : Settings → Flow → Tally → Status → Registers → Pipeline
-whole s f t x r =
+unfoldable pub whole : Settings → Flow → Tally → Status → Registers → Blame → Pipeline
+whole s f t x r z =
     record {
       settings = s;
       predicted = f .predicted;
@@ -52,7 +56,13 @@ whole s f t x r =
       cycles = t .cycles;
       kinds = t .kinds;
       kept = t .kept;
+      blame = z;
     }
+
+-- what the instruction in W is blamed on, if it stops the machine
+unfoldable pub blameIn : StageW → Memory → Blame
+blameIn bubbleW m = noBlame
+blameIn (inW w) m = blameOf m (w .instruction)
 
 -- THE LOGS
 -- where b says that an instruction retired, place k takes x

@@ -13,7 +13,9 @@ use clocked::StageD;
 use clocked::StageE;
 use clocked::StageM;
 use clocked::StageW;
+use machine::Blame;
 use machine::Codes;
+use machine::Fault;
 use machine::REGISTERS;
 use machine::Status;
 ghost use mathlib.Core.Path.{_≡_};
@@ -70,6 +72,10 @@ pub fn start(
             returned: 0,
         },
         kept: Kept::NoneKept,
+        blame: Blame {
+            fault: Fault::NoFault,
+            address: 0,
+        },
     };
     Answer {
         number: start_refusal(settings, size, address),

@@ -1,10 +1,14 @@
 // The loop of every entry, with the record taken apart for its length.
 use clocked::Pipeline;
 use clocked::Settings;
+use clocked::StageW;
+use fetching::blame_of;
 use flow::Ahead;
 use flow::Flow;
 use flow::advance;
 use isa::decoding::is_bad;
+use machine::Blame;
+use machine::Fault;
 use machine::REGISTERS;
 use machine::Status;
 use retiring::Tally;
@@ -22,7 +26,7 @@ ghost use Rattle.machine.specs.Memory.{lent};
 ghost use Rattle.clocked.specs.Prediction.{coreOf};
 ghost use Rattle.clocked.specs.Pipeline.{pipedOf, clocks};
 ghost use Rattle.clocked.specs.PipeRuns.{pipeLimit, pipeAnswer, pipeDone, countsRefused};
-ghost use Rattle.pipe.specs.Parts.{flowOf, tallyOf, whole, noted};
+ghost use Rattle.pipe.specs.Parts.{flowOf, tallyOf, whole, blameIn, noted};
 
 // What a clock moves.
 fn flow_of(p: Pipeline) -> Flow
@@ -71,8 +75,9 @@ fn put_together(
     tally: Tally,
     status: Status,
     registers: [u64; REGISTERS],
+    blame: Blame,
 ) -> Pipeline
-    ensures { λ r. ⌜ r ≡ whole settings flow tally status registers ⌝ }
+    ensures { λ r. ⌜ r ≡ whole settings flow tally status registers blame ⌝ }
 {
     let d = flow.d;
     let e = flow.e;
@@ -96,6 +101,23 @@ fn put_together(
         cycles: tally.cycles,
         kinds,
         kept,
+        blame,
+    }
+}
+
+// What the instruction in W is blamed on, if it stops the machine.
+fn blame_in(w: StageW, memory: &[u8]) -> Blame
+    ensures { λ r. ⌜ r ≡ blameIn w (lent (now (memory .entry))) ⌝ }
+{
+    match w {
+        StageW::BubbleW => Blame {
+            fault: Fault::NoFault,
+            address: 0,
+        },
+        StageW::InW(x) => {
+            let i = x.instruction;
+            blame_of(memory, i)
+        }
     }
 }
 
@@ -126,6 +148,7 @@ pub fn looped(
     let mut flow = flow_of(pipeline);
     let mut tally = tally_of(pipeline);
     let mut status = pipeline.status;
+    let mut blame = pipeline.blame;
     let mut done: u64 = 0;
     while done < budget {
         if is_bad(status) {
@@ -140,9 +163,10 @@ pub fn looped(
         note(retired, place, tally.cycles, cycles);
         done += 1;
         if bad_in_w(w) {
+            blame = blame_in(w, memory);
             break; // everything else stays as it stood
         }
         flow = advance(settings, flow, &mut registers, memory);
     }
-    put_together(settings, flow, tally, status, registers)
+    put_together(settings, flow, tally, status, registers, blame)
 }

@@ -15,10 +15,11 @@ use Rattle.machine.specs.declared.Instruction.{Instruction}
 use Rattle.machine.specs.declared.Decoded.{Decoded}
 use Rattle.machine.specs.declared.Executed.{Executed}
 use Rattle.machine.specs.declared.Accessed.{Accessed}
+use Rattle.machine.specs.declared.Blame.{Blame}
 use Rattle.machine.specs.declared.Machine.{Machine}
 use Rattle.machine.specs.Types.{isBad}
 use Rattle.machine.specs.Memory.{Memory, size, value, written}
-use Rattle.machine.specs.Fetch.{fetch}
+use Rattle.machine.specs.Fetch.{fetch, blameOf}
 use Rattle.machine.specs.Stages.{sourceA, sourceB, decode, execute, access, newCodes, newMemory, newRegisters, nextAddress, resultTarget, loadedTarget}
 use Rattle.machine.specs.Plain.{Plain, plainOf, isStopped, fetched, decoded, executed, accessed, performed, stoppedBy, step, steps}
 use Rattle.machine.specs.Runs.{laid, lowest, sizeRefused, budgetRefused, logRefused, plainLimit}
@@ -30,7 +31,7 @@ use Rattle.answers.specs.Logs.{laid-more, laid-length}
 use Rattle.plain.specs.Steps.{bare, behind, step-bare, step-logs, step-counts, still-on}
 
 pub changed : (m : Machine) (q v : ℕ) → q < 15
-    → record { registers = set (m .registers) q v; codes = m .codes; address = m .address; status = m .status; last = m .last; count = m .count }
+    → record { registers = set (m .registers) q v; codes = m .codes; address = m .address; status = m .status; last = m .last; count = m .count; blame = m .blame }
     ≡ withRegister m q v
 unfolding withRegister written
 changed m q v h = cc (lt-ltb q 15 h)
@@ -47,7 +48,7 @@ decoded-is m i p q a b e f g h = cc
 pub performed-is : (m one both : Machine) (x : Decoded) (w : Accessed) (t u a : ℕ) (c : Codes) → t ≡ resultTarget (w .instruction) (w .holds)
     → one ≡ withRegister m t (w .result) → u ≡ loadedTarget (w .instruction) → both ≡ withRegister one u (w .word) → c ≡ newCodes x (m .codes)
     → a ≡ nextAddress w
-    → record { registers = both .registers; codes = c; address = a; status = aok; last = m .address; count = m .count + 1 } ≡ afterPerformed m x w
+    → record { registers = both .registers; codes = c; address = a; status = aok; last = m .address; count = m .count + 1; blame = m .blame } ≡ afterPerformed m x w
 unfolding afterPerformed withRegister newRegisters
 performed-is m one both x w t u a c e f g h k l = cc
 
@@ -55,9 +56,9 @@ performed-is m one both x w t u a c e f g h k l = cc
 module _ (m : Machine) (mem : Memory) (i : Instruction) (x : Decoded) (e : Executed) (w : Accessed) (b : Bool)
     (runs : isBad (m .status) ≡ false) (hi : i ≡ fetch mem (m .address)) (hx : x ≡ decode i (value (m .registers))) (he : e ≡ execute x (m .codes))
     (hw : w ≡ access e mem) (hb : b ≡ isBad (w .status)) where
-  pub stops : (r : Machine) → b ≡ true → r ≡ afterStop m (w .status) → (r ≡ step (plainOf m mem) .machine) × (mem ≡ step (plainOf m mem) .memory)
+  pub stops : (r : Machine) (z : Blame) → b ≡ true → z ≡ blameOf mem i → r ≡ afterStop m (w .status) z → (r ≡ step (plainOf m mem) .machine) × (mem ≡ step (plainOf m mem) .memory)
   unfolding step isStopped accessed executed decoded fetched stoppedBy afterStop
-  stops r t q = (cc, cc)
+  stops r z t hz q = (cc, cc)
 
   pub performs : (r : Machine) (mem′ : Memory) → b ≡ false → mem′ ≡ newMemory e mem → r ≡ afterPerformed m x w
       → (r ≡ step (plainOf m mem) .machine) × (mem′ ≡ step (plainOf m mem) .memory)

@@ -5,6 +5,7 @@ use mathlib.Core.Path.{_≡_}
 use Rattle.machine.specs.declared.Machine.{Machine}
 use Rattle.machine.specs.declared.Decoded.{Decoded}
 use Rattle.machine.specs.declared.Accessed.{Accessed}
+use Rattle.machine.specs.declared.Blame.{Blame}
 use Rattle.machine.specs.declared.Status.{Status}
 use Rattle.machine.specs.declared.Status.the-variants.{Aok as aok}
 use Rattle.machine.specs.Memory.{Memory, written}
@@ -14,7 +15,7 @@ use Rattle.machine.specs.Runs.{laid}
 
 unfoldable pub withRegister : Machine → ℕ → ℕ → Machine
 withRegister m q v =
-    record { registers = written (m .registers) q v; codes = m .codes; address = m .address; status = m .status; last = m .last; count = m .count }
+    record { registers = written (m .registers) q v; codes = m .codes; address = m .address; status = m .status; last = m .last; count = m .count; blame = m .blame }
 
 unfoldable pub afterPerformed : Machine → Decoded → Accessed → Machine
 afterPerformed m x w =
@@ -25,10 +26,11 @@ afterPerformed m x w =
       status = aok;
       last = m .address;
       count = m .count + 1;
+      blame = m .blame;
     }
 
-unfoldable pub afterStop : Machine → Status → Machine
-afterStop m s = record { registers = m .registers; codes = m .codes; address = m .address; status = s; last = m .address; count = m .count + 1 }
+unfoldable pub afterStop : Machine → Status → Blame → Machine
+afterStop m s x = record { registers = m .registers; codes = m .codes; address = m .address; status = s; last = m .address; count = m .count + 1; blame = x }
 
 -- a run of n instructions from k and memory m, with the log l, ends at r, m′ and l′
 pub record RunsTo (k : Machine) (m : Memory) (n : ℕ) (l : List ℕ) (r : Machine) (m′ : Memory) (l′ : List ℕ) : Type 0 where

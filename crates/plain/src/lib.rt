@@ -1,4 +1,5 @@
 // The plain engine: one instruction at a time.
+use fetching::blame_of;
 use fetching::instruction_at;
 use isa::accessing::access;
 use isa::accessing::update;
@@ -12,8 +13,10 @@ use isa::executing::execute;
 use isa::executing::new_codes;
 use isa::executing::next_address;
 use machine::Accessed;
+use machine::Blame;
 use machine::Codes;
 use machine::Decoded;
+use machine::Fault;
 use machine::Instruction;
 use machine::Machine;
 use machine::NONE;
@@ -49,6 +52,10 @@ pub fn start(size: usize, registers: [u64; REGISTERS], codes: Codes, address: u6
         status: Status::Aok,
         last: address,
         count: 0,
+        blame: Blame {
+            fault: Fault::NoFault,
+            address: 0,
+        },
     };
     Answer {
         number: answers::start_refusal(size, address),
@@ -93,35 +100,40 @@ fn after_performed(m: Machine, x: Decoded, w: Accessed) -> Machine
 {
     let i = w.instruction;
     let codes = m.codes;
+    let blame = m.blame;
     let target = result_target(i, w.holds);
     let loaded = loaded_target(i);
     let one = with_register(m, target, w.result);
     let both = with_register(one, loaded, w.word);
     let registers = both.registers;
+    let count = m.count + 1;
     Machine {
         registers,
         codes: new_codes(x, codes),
         address: next_address(w),
         status: Status::Aok,
         last: m.address,
-        count: m.count + 1,
+        count,
+        blame,
     }
 }
 
 // The record after the stopping instruction.
-fn after_stop(m: Machine, status: Status) -> Machine
+fn after_stop(m: Machine, status: Status, blame: Blame) -> Machine
     requires { ⌜ m .count < plainLimit ⌝ }
-    ensures { λ r. ⌜ r ≡ afterStop m status ⌝ }
+    ensures { λ r. ⌜ r ≡ afterStop m status blame ⌝ }
 {
     let registers = m.registers;
     let codes = m.codes;
+    let count = m.count + 1;
     Machine {
         registers,
         codes,
         address: m.address,
         status,
         last: m.address,
-        count: m.count + 1,
+        count,
+        blame,
     }
 }
 
@@ -138,7 +150,7 @@ fn advance(m: Machine, memory: &mut [u8]) -> Machine
     let w = access(e, memory);
     let status = w.status;
     if is_bad(status) {
-        return after_stop(m, status);
+        return after_stop(m, status, blame_of(memory, i));
     }
     update(e, memory);
     after_performed(m, x, w)

@@ -1,20 +1,20 @@
 -- The columns of document 003's stage tables, proved of the plain step: what an instruction changes, to what, and nothing else.
 -- Names as there: M₁, M₈, R, PC, CC, icode, ifun, rA, rB, valE, valM. What fetch-aok says is put in: rA:rB is M₁[PC+1], valC is M₈[PC+2] or M₈[PC+1].
 use Prim.Native.Nat.{ℕ, _+_, _/_, _%_, _<_, _≤_}
-use mathlib.Core.Path.{_≡_, refl, ap, _∙_}
+use mathlib.Core.Path.{_≡_, refl, ap, _∙_, sym}
 use mathlib.Core.Bool.{Bool, true, false, cond, not, _&&_, _||_}
 use mathlib.Core.List.{[], _∷_, _++_}
 use lib.Seq.{set-set}
 use Rattle.machine.specs.Types.{isBad}
 use Rattle.machine.specs.Words.{sum, difference, placed}
-use Rattle.machine.specs.Memory.{Memory, lent, size, Registers, inside, load, store, value, written}
+use Rattle.machine.specs.Memory.{Memory, lent, codeEnd, Registers, inside, load, store, value, written}
 use Rattle.machine.specs.Table.{table, rowOf, is, unknownCode}
-use Rattle.machine.specs.Fetch.{namesA, namesB, half, stopping}
+use Rattle.machine.specs.Fetch.{namesA, namesB, half, faultAt, blameOf, noBlame, stopping}
 use Rattle.machine.specs.Stages
 use Rattle.machine.specs.Stages.{decode, execute, access, newCodes, newMemory, newRegisters, nextAddress}
 use Rattle.machine.specs.Stages.{operated, operatedCodes, condition, loads, stores, accessAddress, accessStatus}
 use Rattle.machine.specs.Plain.{Plain, isStopped, fetched, decoded, executed, accessed, performed, stoppedBy, step}
-use Rattle.published.specs.Names.{Status, aok, hlt, adr, Codes, Instruction}
+use Rattle.published.specs.Names.{Status, aok, hlt, adr, Fault, noFault, Blame, Codes, Instruction}
 use Rattle.published.specs.Fetching.{M₁, M₈, aokAt, fetch-aok, aok-code, fetch-bad, fetch-halt}
 
 abbrev pub PC : Plain → ℕ
@@ -53,18 +53,32 @@ At s code = (isStopped s ≡ false) × (fetched s .status ≡ aok) × (icode s �
 abbrev pub after : Plain → Registers → Codes → Memory → ℕ → Status → Plain
 after s r c m a t =
     record {
-      machine = record { registers = r; codes = c; address = a; status = t; last = PC s; count = s .machine .count + 1 };
+      machine = record { registers = r; codes = c; address = a; status = t; last = PC s; count = s .machine .count + 1; blame = s .machine .blame };
       memory = m;
       log = s .log ++ PC s ∷ [];
     }
 
--- of the stopping one only the status, the last address, the count and the log tell
-abbrev pub stopped : Plain → Status → Plain
-stopped s bad = after s (s .machine .registers) (s .machine .codes) (s .memory) (PC s) bad
+-- of the stopping one only the status, the last address, the count, the log and the reason of a bad fetch tell
+abbrev pub stopped : Plain → Status → Blame → Plain
+stopped s bad f =
+    record {
+      machine =
+          record {
+            registers = s .machine .registers;
+            codes = s .machine .codes;
+            address = PC s;
+            status = bad;
+            last = PC s;
+            count = s .machine .count + 1;
+            blame = f;
+          };
+      memory = s .memory;
+      log = s .log ++ PC s ∷ [];
+    }
 
--- an access of the word at a: the stopping one with ADR, if that is not inside
+-- an access of the word at a: the stopping one with ADR and no reason of a fetch, if that is not inside
 abbrev pub accessing : Plain → ℕ → Plain → Plain
-accessing s a t = cond (inside (s .memory) a) t (stopped s adr)
+accessing s a t = cond (inside (s .memory) a) t (stopped s adr noBlame)
 
 -- THE GENERAL COLUMN
 -- the step at s of an instruction with AOK, by the stage functions
@@ -75,7 +89,7 @@ stepOf s i =
     let w = access y (s .memory) in
     cond (not (loads i || stores i) || inside (s .memory) (accessAddress y))
     (after s (newRegisters w (s .machine .registers)) (newCodes x (s .machine .codes)) (newMemory y (s .memory)) (nextAddress w) aok)
-    (stopped s adr)
+    (stopped s adr (blameOf (s .memory) i))
 
 -- the status after an access decides
 decided : (accesses within : Bool) (now : Status) (f : Status → Plain) (t : Plain) → now ≡ aok
@@ -87,14 +101,14 @@ decided false within now f t a = rw a
 
 step-of : (s : Plain) (i : Instruction) → isStopped s ≡ false → fetched s ≡ i → i .status ≡ aok → step s ≡ stepOf s i
 unfolding step decoded executed accessed performed stoppedBy access accessStatus execute decode stepOf
-step-of s i r e a = rw (r, e) (decided (loads i || stores i) (inside (s .memory) (accessAddress (execute (decode i (R s)) (CC s)))) (i .status) (stopped s) _ a)
+step-of s i r e a = rw (r, e) (decided (loads i || stores i) (inside (s .memory) (accessAddress (execute (decode i (R s)) (CC s)))) (i .status) (λ bad. stopped s bad (blameOf (s .memory) i)) _ a)
 
 -- the same of the instruction at the program address
 unfoldable columnOf : Plain → ℕ → Plain
 unfolding rowOf table is namesA namesB half value written Stages.register Stages.sourceA Stages.sourceB decode
     Stages.computed Stages.result Stages.outcome execute
     Stages.loading Stages.storing loads stores Stages.addressed accessAddress Stages.stored Stages.storedWord access
-    Stages.codesBy newCodes newMemory Stages.resultTarget Stages.loadedTarget newRegisters Stages.turned Stages.straight nextAddress isBad stepOf aokAt
+    Stages.codesBy newCodes newMemory Stages.resultTarget Stages.loadedTarget newRegisters Stages.turned Stages.straight nextAddress isBad stepOf aokAt blameOf faultAt noBlame
 columnOf s code = stepOf s (aokAt (s .memory) (PC s) code)
 
 column : (s : Plain) (code : ℕ) → At s code → step s ≡ columnOf s code
@@ -224,17 +238,23 @@ stored m a v h = rw h
 
 -- THE STOPPING INSTRUCTION
 -- fetched with HLT, ADR or INS
-pub stops : (s : Plain) (bad : Status) → isStopped s ≡ false → isBad bad ≡ true → fetched s .status ≡ bad → step s ≡ stopped s bad
-unfolding step fetched decoded executed accessed stoppedBy access accessStatus execute decode loads Stages.loading stores Stages.storing rowOf table stopping
-stops s bad r h e = rw (r, fetch-bad (s .memory) (PC s) bad h e, h)
+stops-by : (s : Plain) (bad : Status) (f : Fault) → isStopped s ≡ false → isBad bad ≡ true → fetched s ≡ stopping (PC s) bad f → step s ≡ stopped s bad (blameOf (s .memory) (stopping (PC s) bad f))
+unfolding step decoded executed accessed stoppedBy access accessStatus execute decode loads Stages.loading stores Stages.storing rowOf table stopping
+stops-by s bad f r h e = rw (r, e, h)
+
+pub stops : (s : Plain) (bad : Status) → isStopped s ≡ false → isBad bad ≡ true → fetched s .status ≡ bad → step s ≡ stopped s bad (blameOf (s .memory) (fetched s))
+unfolding fetched
+stops s bad r h e =
+    let f = fetch-bad (s .memory) (PC s) bad h e in
+    stops-by s bad (fetched s .fault) r h f ∙ ap (λ i. stopped s bad (blameOf (s .memory) i)) (sym f)
 
 -- halt, 0x00: HLT
-pub halt : (s : Plain) → isStopped s ≡ false → PC s < size (s .memory) → M₁ (s .memory) (PC s) ≡ 0 → step s ≡ stopped s hlt
-unfolding fetched isBad
-halt s r h e = stops s hlt r refl (fetch-halt (s .memory) (PC s) h e)
+pub halt : (s : Plain) → isStopped s ≡ false → PC s < codeEnd (s .memory) (PC s) → M₁ (s .memory) (PC s) ≡ 0 → step s ≡ stopped s hlt noBlame
+unfolding fetched isBad stopping blameOf faultAt noBlame
+halt s r h e = stops-by s hlt noFault r refl (fetch-halt (s .memory) (PC s) h e)
 
 -- "Simulators that move rsp on a failed push are not followed."
-pub pushq-fails : (s : Plain) → At s 10 → inside (s .memory) (difference (R s rsp) 8) ≡ false → step s ≡ stopped s adr
+pub pushq-fails : (s : Plain) → At s 10 → inside (s .memory) (difference (R s rsp) 8) ≡ false → step s ≡ stopped s adr noBlame
 pushq-fails s h e = pushq s h ∙ rw e
 
 -- "A step or clock on a stopped machine changes nothing, counts nothing and logs nothing."

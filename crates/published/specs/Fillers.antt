@@ -5,7 +5,7 @@ use mathlib.Core.Bool.{Bool, true, cond}
 use native.Mathlib.Omega.{arith}
 use lib.Dec.{T, ltb}
 use Rattle.machine.specs.Words.{number}
-use Rattle.machine.specs.Memory.{Memory, size}
+use Rattle.machine.specs.Memory.{Memory, codeEnd}
 use Rattle.machine.specs.Table.{RegisterByte, rowOf}
 use Rattle.machine.specs.Fetch.{namesA, namesB, fetch}
 use Rattle.published.specs.Lengths.{length-rule, parts, hasRegisterByte}
@@ -17,7 +17,7 @@ byteAt m a = rowOf (M₁ m a / 16) .byte
 
 -- two memories alike but for the halves of that byte that name no register
 pub record SameButFillers (m m′ : Memory) (a : ℕ) : Type 0 where
-  pub sizes : size m ≡ size m′
+  pub ends : codeEnd m a ≡ codeEnd m′ a
   pub bytes : (x : ℕ) → (T (hasRegisterByte (byteAt m a)) → x ≡ a + 1 → ⊥) → M₁ m x ≡ M₁ m′ x
   pub high : T (namesA (byteAt m a)) → M₁ m (a + 1) / 16 ≡ M₁ m′ (a + 1) / 16
   pub low : T (namesB (byteAt m a)) → M₁ m (a + 1) % 16 ≡ M₁ m′ (a + 1) % 16
@@ -52,4 +52,4 @@ module _ (m m′ : Memory) (a : ℕ) (s : SameButFillers m m′ a) where
       )
 
   pub fillers-ignored : fetch m a ≡ fetch m′ a
-  fillers-ignored = cc (fetch-is m a, fetch-is m′ a, s .sizes, same-first, same-there)
+  fillers-ignored = cc (fetch-is m a, fetch-is m′ a, s .ends, same-first, same-there)

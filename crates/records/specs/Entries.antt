@@ -7,6 +7,7 @@ use lib.ListN.{replicate}
 use Rattle.machine.specs.Memory.{Memory}
 use Rattle.machine.specs.Table.{unknownByte}
 use Rattle.clocked.specs.Prediction.{asIn01}
+use Rattle.machine.specs.Fetch.{noBlame}
 use Rattle.machine.specs.Plain.{plainOf, plainStart}
 use Rattle.clocked.specs.Premise.{writesByte, hasByte}
 use Rattle.machine.specs.Runs.{startRefusal, plainStarted, PlainAnswer, plainAnswer, plainRefusal as plainRefuses, plainStep}
@@ -45,7 +46,7 @@ counting s n f = answers s (pipeRunUnlogged (with (f ∷ [])) short 1) ((refusal
 
 -- a plain record: register rbx is 6, codes 7
 abbrev machine : (address : ℕ) → Status → (last count : ℕ) → Machine
-machine a s l n = record { registers = given ((3, 6) ∷ []); codes = coded 7; address = a; status = s; last = l; count = n }
+machine a s l n = record { registers = given ((3, 6) ∷ []); codes = coded 7; address = a; status = s; last = l; count = n; blame = noBlame }
 
 -- which of the bytes 0 to 3, and 8 to 11, and 16
 abbrev marks : (ℕ → ℕ) → List ℕ

@@ -1,13 +1,16 @@
 -- Fetching: the table, the checks in their order, the fields, and what a bad fetch travels as.
 use Prim.Native.Nat.{ℕ, _-_, _^_}
 use Prim.Native.String.{String}
+use mathlib.Core.Bool.{true}
 use mathlib.Core.List.{List, [], _∷_}
-use Rattle.machine.specs.Types.{statusNumber}
-use Rattle.machine.specs.Fetch.{fetch}
+use Rattle.machine.specs.Types.{statusNumber, faultNumber}
+use Rattle.machine.specs.Fetch.{fetch, blameOf}
+use Rattle.machine.specs.Plain.{plainStart}
 use Rattle.machine.specs.Runs.{fetchAnswer}
-use Rattle.records.specs.Names.{Instruction, FetchAnswer}
-use Rattle.records.specs.Given.{image, filled, empty, F}
-use Rattle.records.specs.Looks.{Row, Look, answers, clocked, numbers, predicted, d, address, fetchStatus, code, function, ra, rb, constant, next}
+use Rattle.records.specs.Names.{adr, ins, laterMissing, Instruction, FetchAnswer}
+use Rattle.records.specs.Given.{image, filled, empty, given, coded, nop, popq, blamedFor, F, W}
+use Rattle.records.specs.Looks.{Row, Look, answers, clocked, numbers, predicted, d, address, fetchStatus, code, function, ra, rb, constant, next, fault}
+use Rattle.records.specs.Looks.{blamed, blamedAt, status, last, performed, plainFault, plainFaultAt, plainStatus}
 
 -- the status with which each image is fetched at 0: how many bytes there are, and the bytes as they are written
 abbrev statuses : List (ℕ × ℕ) → List ℕ
@@ -20,6 +23,20 @@ fetches s xs = numbers s (statuses xs)
 -- what is fetched at an address
 abbrev fetchesAt : String → (size bytes written address : ℕ) → List (Look Instruction) → Row
 fetchesAt s n k x a = answers s (fetch (image n k x) a)
+
+-- the reason for which each image is not fetched at 0, and the byte at fault; one image with several addresses
+abbrev faults : List (ℕ × ℕ) → List ℕ
+faults [] = []
+faults (x ∷ xs) =
+    let i = fetch (image (x .0) (x .0) (x .1)) 0 in
+    faultNumber (i .fault) ∷ blameOf (image (x .0) (x .0) (x .1)) i .address ∷ faults xs
+
+abbrev faultsOf : String → List (ℕ × ℕ) → List ℕ → Row
+faultsOf s xs = numbers s (faults xs)
+
+-- where the byte at fault is, of the open entry's answer
+abbrev at : FetchAnswer → ℕ
+at r = r .blame .address
 
 -- of the open entry's answer
 abbrev refusal : FetchAnswer → ℕ
@@ -91,6 +108,37 @@ rowsOfFetch =
     ∷ answers "R14.6 fetch, 1: N is 0" (fetchAnswer empty 5) ((refusal, 1) ∷ (of address, 5) ∷ (of fetchStatus, 3) ∷ (of code, 1) ∷ (of next, 5) ∷ [])
     ∷ answers "R14.6 fetch, 1: N is above 65,536" (fetchAnswer (filled 65537 0x10) 5) ((refusal, 1) ∷ (of fetchStatus, 3) ∷ [])
     ∷ answers "R14.6 fetch, N is 65,536" (fetchAnswer (filled 65536 0x10) 5) ((refusal, 0) ∷ (of address, 5) ∷ (of fetchStatus, 1) ∷ (of next, 6) ∷ [])
+    -- why a fetch failed, and the byte at fault: each reason at the lowest address, and at a later one
+    ∷ faultsOf "R4.4 none for AOK and for halt" ((1, 0x10) ∷ (1, 0x00) ∷ (2, 0x6023) ∷ []) (0 ∷ 0 ∷ 0 ∷ 0 ∷ 0 ∷ 0 ∷ [])
+    ∷ faultsOf "R4.4 2, code: D to F, whatever the function" ((1, 0xd0) ∷ (1, 0xdf) ∷ (1, 0xe0) ∷ (1, 0xff) ∷ []) (2 ∷ 0 ∷ 2 ∷ 0 ∷ 2 ∷ 0 ∷ 2 ∷ 0 ∷ [])
+    ∷ faultsOf "R4.4 3, function: the byte at fault is the first" ((1, 0x01) ∷ (1, 0x27) ∷ (2, 0x64ff) ∷ (1, 0xc1) ∷ []) (3 ∷ 0 ∷ 3 ∷ 0 ∷ 3 ∷ 0 ∷ 3 ∷ 0 ∷ [])
+    ∷ faultsOf "R4.4 4, a later byte: the lowest missing address is N" ((1, 0x60) ∷ (1, 0x30) ∷ (9, 0x30f1_00000000000000) ∷ (8, 0x70_00000000000000) ∷ [])
+    (4 ∷ 1 ∷ 4 ∷ 1 ∷ 4 ∷ 9 ∷ 4 ∷ 8 ∷ [])
+    ∷ faultsOf "R4.4 5, register: the byte at fault is the register byte" ((2, 0x20f0) ∷ (2, 0x600f) ∷ (2, 0xa0f0) ∷ (10, 0x30ff_0000000000000000) ∷ [])
+    (5 ∷ 1 ∷ 5 ∷ 1 ∷ 5 ∷ 1 ∷ 5 ∷ 1 ∷ [])
+    ∷ answers "R4.4 1, first byte: at N" (fetchAnswer (image 3 0 0) 3) ((refusal, 0) ∷ (of fault, 1) ∷ (at, 3) ∷ [])
+    ∷ answers "R4.4 1, first byte: beyond N it is not N that is at fault" (fetchAnswer (image 3 0 0) 77) ((refusal, 0) ∷ (of fault, 1) ∷ (at, 77) ∷ [])
+    ∷ answers "R4.4 1, first byte: at the highest address" (fetchAnswer (image 3 0 0) (2 ^ 64 - 1)) ((of fault, 1) ∷ (at, 2 ^ 64 - 1) ∷ [])
+    ∷ answers "R4.4 2, code: later" (fetchAnswer (image 5 5 0x10101010_d0) 4) ((of fault, 2) ∷ (at, 4) ∷ [])
+    ∷ answers "R4.4 3, function: later" (fetchAnswer (image 5 5 0x10101010_91) 4) ((of fault, 3) ∷ (at, 4) ∷ [])
+    ∷ answers "R4.4 4, a later byte: later" (fetchAnswer (image 5 5 0x101010_30f1) 3) ((of fault, 4) ∷ (at, 5) ∷ [])
+    ∷ answers "R4.4 5, register: later" (fetchAnswer (image 5 5 0x101010_60f0) 3) ((of fault, 5) ∷ (at, 4) ∷ [])
+    ∷ answers "R4.4 a refused fetch: as the first byte outside memory" (fetchAnswer empty 5) ((refusal, 1) ∷ (of fault, 1) ∷ (at, 5) ∷ [])
+    -- and in the record of each engine after its stop
+    ∷ clocked "R4.5 the pipeline: none while it runs" (F 3 ∷ []) (image 5 5 0x101010_60f0) 4 ((blamed, 0) ∷ (blamedAt, 0) ∷ [])
+    ∷ clocked "R4.5 the pipeline: register" (F 3 ∷ []) (image 5 5 0x101010_60f0) 5 ((status, 4) ∷ (last, 3) ∷ (blamed, 5) ∷ (blamedAt, 4) ∷ [])
+    ∷ clocked "R4.5 the pipeline: a later byte" (F 3 ∷ []) (image 5 5 0x101010_30f1) 5 ((status, 3) ∷ (last, 3) ∷ (blamed, 4) ∷ (blamedAt, 5) ∷ [])
+    ∷ clocked "R4.5 the pipeline: the first byte, beyond N" (F 9 ∷ []) (image 5 0 0) 5 ((status, 3) ∷ (last, 9) ∷ (blamed, 1) ∷ (blamedAt, 9) ∷ [])
+    ∷ clocked "R4.5 the pipeline: halt has none" [] (image 5 0 0) 5 ((status, 2) ∷ (blamed, 0) ∷ (blamedAt, 0) ∷ [])
+    ∷ clocked "R4.5 the pipeline: an access outside has none" (W (popq 1 7) 0 true 0 adr ∷ []) (image 5 0 0) 1 ((status, 3) ∷ (last, 7) ∷ (blamed, 0) ∷ (blamedAt, 0) ∷ [])
+    ∷ clocked "R4.5 the pipeline: what the instruction in W carries, and memory as it then is" (W (blamedFor laterMissing (nop 7)) 0 true 0 ins ∷ []) (image 20 0 0) 1
+    ((status, 4) ∷ (last, 7) ∷ (blamed, 4) ∷ (blamedAt, 20) ∷ [])
+    ∷ performed "R4.5 the plain engine: function, none before it" (plainStart (given []) (coded 4) 0) (image 5 5 0x10_91_101010) 1 (0 ∷ []) ((plainFault, 0) ∷ [])
+    ∷ performed "R4.5 the plain engine: function" (plainStart (given []) (coded 4) 0) (image 5 5 0x10_91_101010) 2 (0 ∷ 0 ∷ [])
+    ((plainStatus, 4) ∷ (plainFault, 3) ∷ (plainFaultAt, 1) ∷ [])
+    ∷ performed "R4.5 the plain engine: halt has none" (plainStart (given []) (coded 4) 0) (image 5 1 0x10) 2 (0 ∷ 0 ∷ []) ((plainStatus, 2) ∷ (plainFault, 0) ∷ [])
+    ∷ performed "R4.5 the plain engine: an access outside has none" (plainStart (given []) (coded 4) 0) (image 5 2 0xb01f) 2 (0 ∷ 0 ∷ [])
+    ((plainStatus, 3) ∷ (plainFault, 0) ∷ (plainFaultAt, 0) ∷ [])
     -- "An instruction fetched with status not AOK travels as a nop with that status; its predicted address is its own."
     ∷ clocked "R4.3 a bad fetch travels as a nop: INS" (F 1 ∷ []) (image 3 3 0x10_64_23) 1
     ((d address, 1) ∷ (d fetchStatus, 4) ∷ (d code, 1) ∷ (d function, 0) ∷ (d ra, 15) ∷ (d rb, 15) ∷ (d constant, 0) ∷ (d next, 1) ∷ (predicted, 1) ∷ [])

@@ -8,7 +8,7 @@ use Rattle.machine.specs.Memory.{Memory, lent, Registers}
 use Rattle.machine.specs.Table.{unknownCode}
 use Rattle.clocked.specs.Prediction.{asIn01}
 use Rattle.clocked.specs.Pipeline.{pipeStart}
-use Rattle.records.specs.Names.{Status, aok, Codes, Instruction, StageD, inD, StageE, inE, StageM, inM, StageW, inW, Kept, lastKept, Kinds}
+use Rattle.records.specs.Names.{Status, aok, Fault, noFault, Codes, Instruction, StageD, inD, StageE, inE, StageM, inM, StageW, inW, Kept, lastKept, Kinds}
 use Rattle.records.specs.Names.{Settings, Pipeline}
 
 -- MEMORY
@@ -41,7 +41,7 @@ coded n = record { zf = eqb (n / 4) 1; sf = eqb (n / 2 % 2) 1; of = eqb (n % 2) 
 
 -- INSTRUCTIONS, as they are fetched with AOK at an address, which comes last
 abbrev pub instruction : (code function ra rb constant size address : ℕ) → Instruction
-instruction k f x y c n a = record { address = a; status = aok; code = k; function = f; ra = x; rb = y; constant = c; next = a + n }
+instruction k f x y c n a = record { address = a; status = aok; code = k; function = f; ra = x; rb = y; constant = c; next = a + n; fault = noFault }
 
 abbrev pub nop : ℕ → Instruction
 nop = instruction 1 0 15 15 0 1
@@ -95,6 +95,22 @@ fetchedAs s i =
       rb = i .rb;
       constant = i .constant;
       next = i .next;
+      fault = i .fault;
+    }
+
+-- and with a reason of its fetch
+abbrev pub blamedFor : Fault → Instruction → Instruction
+blamedFor f i =
+    record {
+      address = i .address;
+      status = i .status;
+      code = i .code;
+      function = i .function;
+      ra = i .ra;
+      rb = i .rb;
+      constant = i .constant;
+      next = i .next;
+      fault = f;
     }
 
 -- THE RECORD
@@ -123,6 +139,7 @@ stages f d e m w k =
       cycles = k .cycles;
       kinds = k .kinds;
       kept = k .kept;
+      blame = k .blame;
     }
 
 abbrev values : Registers → Codes → Change
@@ -142,6 +159,7 @@ values r c k =
       cycles = k .cycles;
       kinds = k .kinds;
       kept = k .kept;
+      blame = k .blame;
     }
 
 abbrev books : Status → (last retired cycles : ℕ) → Kinds → Kept → Change
@@ -161,6 +179,7 @@ books s a n y t x k =
       cycles = y;
       kinds = t;
       kept = x;
+      blame = k .blame;
     }
 
 -- these settings
@@ -181,6 +200,7 @@ settled s k =
       cycles = k .cycles;
       kinds = k .kinds;
       kept = k .kept;
+      blame = k .blame;
     }
 
 -- the rule of that number, without late store data and with it

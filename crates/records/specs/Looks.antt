@@ -5,7 +5,7 @@ use mathlib.Core.Bool.{Bool, true, false, cond, _&&_}
 use mathlib.Core.List.{List, [], _∷_}
 use lib.Dec.{eqb}
 use lib.ListN.{getD}
-use Rattle.machine.specs.Types.{statusNumber, codesNumber}
+use Rattle.machine.specs.Types.{faultNumber, statusNumber, codesNumber}
 use Rattle.machine.specs.Words.{number}
 use Rattle.machine.specs.Memory.{Memory}
 use Rattle.machine.specs.Runs.{PlainAnswer, plainRun}
@@ -37,6 +37,13 @@ status r = statusNumber (r .pipeline .status)
 
 abbrev pub last : PipeAnswer → ℕ
 last r = r .pipeline .last
+
+-- why a bad fetch stopped it, and the byte at fault
+abbrev pub blamed : PipeAnswer → ℕ
+blamed r = faultNumber (r .pipeline .blame .fault)
+
+abbrev pub blamedAt : PipeAnswer → ℕ
+blamedAt r = r .pipeline .blame .address
 
 abbrev pub retired : PipeAnswer → ℕ
 retired r = r .pipeline .retired
@@ -123,6 +130,9 @@ constant i = i .constant
 abbrev pub next : Instruction → ℕ
 next i = i .next
 
+abbrev pub fault : Instruction → ℕ
+fault i = faultNumber (i .fault)
+
 -- what it carries: in E both values; in M valA, the result and whether its condition holds; in W the result, the word and the status; and
 -- whether the condition of the kept one held
 abbrev pub valA : PipeAnswer → ℕ
@@ -176,6 +186,12 @@ plainLast r = r .machine .last
 
 abbrev pub plainCount : PlainAnswer → ℕ
 plainCount r = r .machine .count
+
+abbrev pub plainFault : PlainAnswer → ℕ
+plainFault r = faultNumber (r .machine .blame .fault)
+
+abbrev pub plainFaultAt : PlainAnswer → ℕ
+plainFaultAt r = r .machine .blame .address
 
 abbrev pub plainLog : ℕ → PlainAnswer → ℕ
 plainLog j r = getD (r .log) j 0

@@ -300,6 +300,9 @@ straight-next g i v h p = cc (ne-eqb (i .code) 7 h)
 pub goes-on : {A : Type 0} (b : Bool) (x y v : A) → b ≡ false → v ≡ y → v ≡ cond b x y
 goes-on b x y v h p = cc
 
+pub cancels-d : (d : StageD) (m : Bool) → m ≡ true → bubbleD ≡ cond m bubbleD d
+cancels-d d m h = cc
+
 pub holds-d : (d e : StageD) (i : Instruction) (m w r : Bool) → m ≡ false → w ≡ true → e ≡ d → e ≡ cond m bubbleD (cond w d (cond r bubbleD (inD i)))
 holds-d d e i m w r f g p = cc
 

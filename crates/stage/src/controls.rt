@@ -32,6 +32,7 @@ pub fn afresh(i: Instruction) -> Instruction
     ensures { λ r. ⌜ r ≡ i ⌝ }
 {
     let status = i.status;
+    let fault = i.fault;
     Instruction {
         address: i.address,
         status,
@@ -41,6 +42,7 @@ pub fn afresh(i: Instruction) -> Instruction
         rb: i.rb,
         constant: i.constant,
         next: i.next,
+        fault,
     }
 }
 

@@ -10,6 +10,7 @@ use blocks_in::reading::machine_in;
 use blocks_in::reading::pipeline_in;
 use blocks_in::reading::registers_in;
 use blocks_in::reading::settings_in;
+use blocks_out::writing::put_fault_address;
 use blocks_out::writing::put_instruction;
 use blocks_out::writing::put_machine;
 use blocks_out::writing::put_pipeline;
@@ -19,7 +20,9 @@ use blocks_out::writing::put_pipeline;
 pub extern "C" fn trial_fetch(memory: &mut [u8], address: u64, block: &mut [u64]) -> u64 {
     let answer = fetching::fetch(memory, address);
     let instruction = answer.instruction;
+    let blame = answer.blame;
     put_instruction(block, 0, instruction);
+    put_fault_address(block, blame);
     answer.number
 }
 

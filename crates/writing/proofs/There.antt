@@ -10,7 +10,7 @@ use borrow.Author.Tests.{eqb-true, eqb-false, lt-ltb, le-ltb, lt-leb, leb-true, 
 use Rattle.machine.specs.declared.Instruction.{Instruction}
 use Rattle.machine.specs.declared.Status.the-variants.{Aok as aok}
 use Rattle.machine.specs.Words.{number}
-use Rattle.machine.specs.Memory.{Memory, lent, size, inside, load}
+use Rattle.machine.specs.Memory.{Memory, lent, size, codeEnd, inside, load}
 use Rattle.machine.specs.Table.{Row, RegisterByte, noByte, bothNamed, onlyB, onlyA, table, rowOf}
 use Rattle.machine.specs.Fetch.{sizeAt, stopping, namesA, namesB, half, misnamed, checked, fetch}
 use Rattle.laws.specs.Tests.{or-true}
@@ -70,14 +70,14 @@ same-names onlyB a b h k = last-register b k
 same-names onlyA a b h k = rw (last-register a h) refl
 
 -- what is there, and would be taken by an encoder
-module _ (m : Memory) (a : ℕ) (first : a < size m) where
+module _ (m : Memory) (a : ℕ) (first : a < size m) (all : codeEnd m a ≡ size m) where
   passed : startsAt m a
       ≡ not (leb (rowOf (M₁ m a / 16) .functions) (M₁ m a % 16)
       || (ltb (size m) (a + sizeAt m a) || misnamed (rowOf (M₁ m a / 16) .byte) (thereAt m a .ra) (thereAt m a .rb)))
   unfolding startsAt sizeAt aokAt
   passed =
       ap (λ (i : Instruction). starts (i .status)) (fetch-is m a)
-      ∙ (starts-checked _ _ _ _ _ (thereAt m a) refl ∙ rw (lt-leb (size m) a first) refl)
+      ∙ (starts-checked _ _ _ _ _ (thereAt m a) refl ∙ rw (all, lt-leb (size m) a first) refl)
 
   pub starts-is : (n f p : ℕ) (x : Bool) → n ≡ sizeAt m a → f ≡ M₁ m a → p ≡ M₁ m (a + 1) → p < 256
       → x ≡ encodeRefused (fields (f / 16) (f % 16) (p / 16) (p % 16) 0) → leb n (size m - a) && not x ≡ startsAt m a

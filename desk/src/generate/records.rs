@@ -3,6 +3,7 @@
 use super::calls::any_codes;
 use super::Random;
 use crate::second::arithmetic::Codes;
+use crate::second::fault::{Fault, Reason};
 use crate::second::letter::{Accessed, Decoded, Executed, Instruction, Machine, Pipeline, Retired};
 use crate::second::machine::{Registers, Status, CYCLE_LIMIT, PLAIN_LIMIT, REGISTER_COUNT, RSP};
 use crate::second::pipeline::{Kinds, Settings};
@@ -45,6 +46,9 @@ pub trait Record: Clone + Debug + PartialEq {
 
     fn status(&self) -> Status;
 
+    /// What the record says of a failed fetch.
+    fn fault(&self) -> Fault;
+
     /// The program address, or the predicted one.
     fn next_address(&self) -> u64;
 }
@@ -75,6 +79,7 @@ impl Record for Machine {
             status: status(random, 7, 8),
             last: value(random, size),
             count: spent(random, PLAIN_LIMIT),
+            fault: fault(random, size),
         }
     }
 
@@ -99,6 +104,10 @@ impl Record for Machine {
 
     fn status(&self) -> Status {
         self.status
+    }
+
+    fn fault(&self) -> Fault {
+        self.fault
     }
 }
 
@@ -136,6 +145,7 @@ impl Record for Pipeline {
                 mispredict: count(random, cycles),
                 returns: count(random, cycles),
             },
+            fault: fault(random, size),
             ..Record::fresh(random, Registers::default(), Codes::default(), 0, size)
         };
         for place in 0..5 {
@@ -188,6 +198,10 @@ impl Record for Pipeline {
     fn status(&self) -> Status {
         self.status
     }
+
+    fn fault(&self) -> Fault {
+        self.fault
+    }
 }
 
 /// Settings that are not refused.
@@ -233,6 +247,21 @@ fn status(random: &mut Random, good: u64, of: u64) -> Status {
     random.pick(&[Status::Hlt, Status::Adr, Status::Ins])
 }
 
+/// None, or any reason, whatever the status is.
+fn reason(random: &mut Random) -> Reason {
+    let any = random.pick(&Reason::ALL);
+    random.pick(&[Reason::None, any])
+}
+
+/// What a record may say of a failed fetch: nothing, or anything.
+fn fault(random: &mut Random, size: usize) -> Fault {
+    let any = Fault {
+        reason: reason(random),
+        address: value(random, size),
+    };
+    random.pick(&[Fault::default(), any])
+}
+
 /// What was spent: mostly little, sometimes all but a little.
 fn spent(random: &mut Random, limit: u64) -> u64 {
     match random.below(4) {
@@ -273,6 +302,7 @@ fn instruction(random: &mut Random, size: usize) -> Instruction {
         rb: register(random),
         constant: random.pick(&[next, below, constant, constant, constant, constant]),
         next,
+        reason: reason(random),
     }
 }
 

@@ -1,7 +1,8 @@
 //! Fetching an instruction, with the checks in document 01's order.
 
-use super::machine::{Status, NONE};
-use super::table::{row_of, RegisterByte, HALT};
+use super::fault::{Reason, Stop};
+use super::machine::NONE;
+use super::table::{row_of, RegisterByte, Row, HALT};
 use super::word;
 
 /// The bytes of an instruction taken apart; a constant it lacks is 0, and
@@ -15,24 +16,24 @@ pub struct Parts {
     pub constant: u64,
 }
 
-/// The instruction at an address, or the status of the first check that fails.
+/// The instruction at an address, or what the first check that fails says.
 #[inline(always)]
-pub fn fetch(memory: &[u8], address: u64) -> Result<Parts, Status> {
+pub fn fetch(memory: &[u8], address: u64) -> Result<Parts, Stop> {
     if address >= memory.len() as u64 {
-        return Err(Status::Adr);
+        return Err(Stop::missing(Reason::FirstMissing));
     }
     let bytes = &memory[address as usize..];
     let (code, function) = (bytes[0] >> 4, bytes[0] & 15);
     let row = row_of(code);
     if function >= row.functions {
-        return Err(Status::Ins);
+        return Err(Stop::unknown(no_function(row)));
     }
     if bytes.len() < usize::from(row.length) {
-        return Err(Status::Adr);
+        return Err(Stop::missing(Reason::LaterMissing));
     }
     let (ra, rb) = registers(bytes, row.register_byte)?;
     if code == HALT {
-        return Err(Status::Hlt);
+        return Err(Stop::HALT);
     }
     Ok(Parts {
         code,
@@ -43,10 +44,18 @@ pub fn fetch(memory: &[u8], address: u64) -> Result<Parts, Status> {
     })
 }
 
+/// Why a function is not in a row: the row has none, or has others.
+fn no_function(row: Row) -> Reason {
+    match row.functions {
+        0 => Reason::Code,
+        _ => Reason::Function,
+    }
+}
+
 /// The register numbers, or INS where a named one is 15. A half that is not
 /// named is not looked at (#102).
 #[inline(always)]
-fn registers(bytes: &[u8], rule: RegisterByte) -> Result<(u8, u8), Status> {
+fn registers(bytes: &[u8], rule: RegisterByte) -> Result<(u8, u8), Stop> {
     let byte = bytes.get(1).copied().unwrap_or(0);
     let (ra, rb) = (byte >> 4, byte & 15);
     match rule {
@@ -54,7 +63,7 @@ fn registers(bytes: &[u8], rule: RegisterByte) -> Result<(u8, u8), Status> {
         RegisterByte::Both if ra != NONE && rb != NONE => Ok((ra, rb)),
         RegisterByte::OnlyB if rb != NONE => Ok((NONE, rb)),
         RegisterByte::OnlyA if ra != NONE => Ok((ra, NONE)),
-        _ => Err(Status::Ins),
+        _ => Err(Stop::unknown(Reason::Register)),
     }
 }
 

@@ -1,6 +1,7 @@
 //! The clock: what one cycle does to a running pipeline.
 
 use super::arithmetic::{operate, Codes, ADD};
+use super::fault::Fault;
 use super::machine::{Registers, Status, NONE};
 use super::pipeline::{Kinds, Pipeline, Settings};
 use super::stages::{fetch_stage, Accessing, Decoding, Executing, Instruction, Writing};
@@ -46,8 +47,9 @@ impl Flow {
         }
     }
 
-    /// The record of a working copy and its registers.
-    pub(super) fn record(self, registers: Registers) -> Pipeline {
+    /// The record of a working copy, its registers and what the record says of a
+    /// failed fetch.
+    pub(super) fn record(self, registers: Registers, fault: Fault) -> Pipeline {
         Pipeline {
             predicted: self.predicted,
             d: self.d.instruction.is_present().then_some(self.d),
@@ -63,6 +65,18 @@ impl Flow {
             kinds: self.kinds,
             kept: self.kept.is_present().then_some(self.kept),
             settings: self.settings,
+            fault,
+        }
+    }
+
+    /// What the instruction that has stopped the machine says of its fetch; it
+    /// still stands in W.
+    pub(super) fn fault(&self, memory: &[u8]) -> Fault {
+        let stopping = self.w.instruction;
+        let (reason, end) = (stopping.reason(), memory.len() as u64);
+        Fault {
+            reason,
+            address: reason.address(stopping.address(), end),
         }
     }
 

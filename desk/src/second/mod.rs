@@ -10,6 +10,7 @@
 pub mod account;
 pub mod arithmetic;
 pub mod encoding;
+pub mod fault;
 pub mod fetch;
 mod flow;
 pub mod letter;
@@ -25,6 +26,7 @@ pub mod table;
 pub mod word;
 pub mod writing;
 
+pub use fault::Reason;
 pub use machine::{Refusal, Registers, Status, REGISTER_COUNT, RSP};
-pub use replay::replay;
+pub use replay::{replay, replay_set};
 pub use report::y86run;

@@ -1,6 +1,7 @@
 //! The pipelined engine: five stages, one clock at a time.
 
 use super::arithmetic::Codes;
+use super::fault::Fault;
 use super::flow::Flow;
 use super::machine::{
     check_budget, check_log, check_memory, check_start, Refusal, Registers, Status, CYCLE_LIMIT,
@@ -60,6 +61,8 @@ pub struct Pipeline {
     /// The last instruction retired with AOK, for the charges.
     pub kept: Option<Instruction>,
     pub settings: Settings,
+    /// Why the fetch that stopped it failed (#107).
+    pub fault: Fault,
 }
 
 /// The two logs a caller lends: retirement addresses and their cycles.
@@ -96,6 +99,7 @@ impl Pipeline {
             kinds: Kinds::default(),
             kept: None,
             settings,
+            fault: Fault::default(),
         })
     }
 
@@ -131,15 +135,19 @@ impl Pipeline {
     #[inline(always)]
     fn run_loop(&mut self, memory: &mut [u8], budget: u64, mut retired: impl FnMut(u64, u64)) {
         let mut flow = Flow::of(self);
-        let mut registers = self.registers;
+        let (mut registers, mut fault) = (self.registers, self.fault);
         let mut left = budget;
+        let running = self.status == Status::Aok;
         while left > 0 && flow.status == Status::Aok {
             if flow.advance(&mut registers, memory) {
                 retired(flow.last, flow.cycles);
             }
             left -= 1;
         }
-        *self = flow.record(registers);
+        if running && flow.status != Status::Aok {
+            fault = flow.fault(memory);
+        }
+        *self = flow.record(registers, fault);
     }
 
     fn run_unlogged(&mut self, memory: &mut [u8], budget: u64) {

@@ -1,6 +1,7 @@
 //! The plain engine: one instruction after the other.
 
 use super::arithmetic::{operate, Codes, ADD};
+use super::fault::{Fault, Stop};
 use super::fetch::{fetch, Parts};
 use super::machine::{
     check_budget, check_log, check_memory, check_start, Refusal, Registers, Status, PLAIN_LIMIT,
@@ -21,6 +22,8 @@ pub struct Plain {
     pub last: u64,
     /// Instructions performed so far.
     pub count: u64,
+    /// Why the fetch that stopped it failed (#107).
+    pub fault: Fault,
 }
 
 impl Plain {
@@ -40,6 +43,7 @@ impl Plain {
             status: Status::Aok,
             last: start,
             count: 0,
+            fault: Fault::default(),
         })
     }
 
@@ -81,14 +85,20 @@ impl Plain {
         self.last = self.address;
         match outcome {
             Ok(next) => self.address = next,
-            Err(status) => self.status = status,
+            Err(stop) => {
+                self.status = stop.status;
+                self.fault = Fault {
+                    reason: stop.reason,
+                    address: stop.reason.address(self.address, memory.len() as u64),
+                };
+            }
         }
     }
 
     /// Carries out an instruction fetched with AOK and gives the next program
     /// address. Each arm makes its access first, so that a failing one leaves
     /// everything as it was.
-    fn carry_out(&mut self, memory: &mut [u8], parts: &Parts) -> Result<u64, Status> {
+    fn carry_out(&mut self, memory: &mut [u8], parts: &Parts) -> Result<u64, Stop> {
         let (ra, rb, constant) = (parts.ra, parts.rb, parts.constant);
         let (a, b) = (self.registers.get(ra), self.registers.get(rb));
         let next = self
@@ -127,7 +137,7 @@ impl Plain {
     }
 
     /// Stores a word below the top of the stack, then lowers rsp.
-    fn push(&mut self, memory: &mut [u8], value: u64) -> Result<(), Status> {
+    fn push(&mut self, memory: &mut [u8], value: u64) -> Result<(), Stop> {
         let below = self.registers.get(RSP).wrapping_sub(8);
         store(memory, below, value)?;
         self.registers.set(RSP, below);
@@ -135,7 +145,7 @@ impl Plain {
     }
 
     /// Loads the word at the top of the stack, then raises rsp.
-    fn pop(&mut self, memory: &[u8]) -> Result<u64, Status> {
+    fn pop(&mut self, memory: &[u8]) -> Result<u64, Stop> {
         let top = self.registers.get(RSP);
         let loaded = load(memory, top)?;
         self.registers.set(RSP, top.wrapping_add(8));
@@ -143,10 +153,10 @@ impl Plain {
     }
 }
 
-fn load(memory: &[u8], address: u64) -> Result<u64, Status> {
-    word::load(memory, address).ok_or(Status::Adr)
+fn load(memory: &[u8], address: u64) -> Result<u64, Stop> {
+    word::load(memory, address).ok_or(Stop::ACCESS)
 }
 
-fn store(memory: &mut [u8], address: u64, value: u64) -> Result<(), Status> {
-    word::store(memory, address, value).ok_or(Status::Adr)
+fn store(memory: &mut [u8], address: u64, value: u64) -> Result<(), Stop> {
+    word::store(memory, address, value).ok_or(Stop::ACCESS)
 }

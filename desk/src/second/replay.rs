@@ -9,6 +9,36 @@ use super::pipeline::{Pipeline, Settings};
 pub const REGISTER_BYTES: usize = 8 * REGISTER_COUNT;
 /// Bytes in the result block: five words.
 pub const RESULT_BYTES: usize = 40;
+/// Bytes in the full result block: eleven words.
+pub const FULL_BYTES: usize = 88;
+
+/// The settings of a replay, as the numbers that an exported function takes.
+#[derive(Clone, Copy, Debug, Default, PartialEq, Eq)]
+pub struct Chosen {
+    /// The prediction rule, 0 to 2 (#105).
+    pub rule: u64,
+    /// 1 for late store data (#106), else 0.
+    pub late: u64,
+    /// 1 where a code window is set, else 0; its first address and its end.
+    pub windowed: u64,
+    pub first: u64,
+    pub end: u64,
+}
+
+impl Chosen {
+    /// The settings that the numbers mean; others are refusal 5. No core has a
+    /// window so far.
+    fn settings(self) -> Result<Settings, Refusal> {
+        let rule = u8::try_from(self.rule).map_err(|_| Refusal::Record)?;
+        if self.late > 1 || self.windowed > 0 {
+            return Err(Refusal::Record);
+        }
+        Ok(Settings {
+            rule,
+            late: self.late == 1,
+        })
+    }
+}
 
 /// One pipelined run without logs from a fresh start. The final registers and
 /// memory are left in the lent bytes; the result words are status, last
@@ -36,31 +66,96 @@ pub fn replay_to_record(
     codes: u64,
     budget: u64,
 ) -> Result<Pipeline, Refusal> {
-    let size = memory.len() as u64;
-    check_memory(size)?;
-    check_length(registers, REGISTER_BYTES, Refusal::Registers)?;
-    check_budget(0, budget, CYCLE_LIMIT)?;
-    check_length(result, RESULT_BYTES, Refusal::Buffer)?;
-    let codes = Codes::from_number(codes).ok_or(Refusal::Record)?;
-    let registers_given = read_registers(registers);
-    let mut machine = Pipeline::fresh(size, registers_given, codes, start, Settings::default())?;
-    machine.run(memory, budget, None)?;
-    write_words(registers, &machine.registers.0);
-    write_words(
-        result,
-        &[
-            machine.status.number(),
-            machine.last,
-            machine.codes.number(),
-            machine.retired,
-            machine.cycles,
-        ],
-    );
+    let asked = Asked {
+        start,
+        codes,
+        budget,
+        chosen: Chosen::default(),
+    };
+    let machine = asked.run(memory, registers, (result.len(), RESULT_BYTES))?;
+    write_words(result, &full_words(&machine));
     Ok(machine)
 }
 
-fn check_length(block: &[u8], length: usize, refusal: Refusal) -> Result<(), Refusal> {
-    if block.len() == length {
+/// The same with settings and the full block of eleven words: those five, then
+/// the cycles by kind (load-use, mispredict, return, patch), the reason of a
+/// failed fetch and the address of the byte at fault (#107).
+pub fn replay_set(
+    memory: &mut [u8],
+    registers: &mut [u8],
+    result: &mut [u8],
+    start: u64,
+    codes: u64,
+    budget: u64,
+    chosen: Chosen,
+) -> u64 {
+    let asked = Asked {
+        start,
+        codes,
+        budget,
+        chosen,
+    };
+    match asked.run(memory, registers, (result.len(), FULL_BYTES)) {
+        Ok(machine) => {
+            write_words(result, &full_words(&machine));
+            0
+        }
+        Err(refusal) => refusal.number(),
+    }
+}
+
+/// The numbers that a replay is given.
+struct Asked {
+    start: u64,
+    codes: u64,
+    budget: u64,
+    chosen: Chosen,
+}
+
+impl Asked {
+    /// Refuses, or runs and leaves the final registers; the lengths are those
+    /// of the result block, as it is and as it has to be.
+    fn run(
+        &self,
+        memory: &mut [u8],
+        registers: &mut [u8],
+        (length, wanted): (usize, usize),
+    ) -> Result<Pipeline, Refusal> {
+        let size = memory.len() as u64;
+        check_memory(size)?;
+        check_length(registers.len(), REGISTER_BYTES, Refusal::Registers)?;
+        check_budget(0, self.budget, CYCLE_LIMIT)?;
+        check_length(length, wanted, Refusal::Buffer)?;
+        let codes = Codes::from_number(self.codes).ok_or(Refusal::Record)?;
+        let settings = self.chosen.settings()?;
+        let given = read_registers(registers);
+        let mut machine = Pipeline::fresh(size, given, codes, self.start, settings)?;
+        machine.run(memory, self.budget, None)?;
+        write_words(registers, &machine.registers.0);
+        Ok(machine)
+    }
+}
+
+/// The words of the full block, of which the short one has the first five.
+fn full_words(machine: &Pipeline) -> [u64; 11] {
+    let kinds = machine.kinds;
+    [
+        machine.status.number(),
+        machine.last,
+        machine.codes.number(),
+        machine.retired,
+        machine.cycles,
+        kinds.load_use,
+        kinds.mispredict,
+        kinds.returns,
+        0,
+        machine.fault.reason.number(),
+        machine.fault.address,
+    ]
+}
+
+fn check_length(length: usize, wanted: usize, refusal: Refusal) -> Result<(), Refusal> {
+    if length == wanted {
         Ok(())
     } else {
         Err(refusal)

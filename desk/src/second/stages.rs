@@ -1,5 +1,6 @@
 //! What the pipeline's stages hold.
 
+use super::fault::Reason;
 use super::fetch::fetch;
 use super::machine::{Status, NONE};
 use super::table::{roles, row_of, CALL, CMOV, IADDQ, JXX, NOP, OPQ, PUSHQ, RMMOVQ};
@@ -26,6 +27,7 @@ const DIFFER: u32 = 3;
 const STATUS: u32 = 4;
 const CODE: u32 = 8;
 const FUNCTION: u32 = 16;
+const REASON: u32 = 24;
 const SOURCE_A: u32 = 32;
 const SOURCE_B: u32 = 40;
 const RESULT_TARGET: u32 = 48;
@@ -64,6 +66,13 @@ impl Instruction {
             | u64::from(function) << FUNCTION
             | roles << SOURCE_A;
         Instruction { address, word }
+    }
+
+    /// The instruction with the reason why its fetch failed (#107).
+    #[inline(always)]
+    pub fn failed(mut self, reason: Reason) -> Instruction {
+        self.word = self.word & !(0xff << REASON) | reason.number() << REASON;
+        self
     }
 
     /// The instruction with what a rule (#105) guesses of a jump to C. Without a
@@ -142,6 +151,11 @@ impl Instruction {
             3 => Status::Adr,
             _ => Status::Ins,
         }
+    }
+
+    /// Why its fetch failed, if it did.
+    pub fn reason(&self) -> Reason {
+        Reason::ALL[usize::from(self.byte(REASON))]
     }
 
     #[inline(always)]
@@ -241,6 +255,7 @@ impl fmt::Debug for Instruction {
             .field("result_target", &self.result_target())
             .field("loaded_target", &self.loaded_target())
             .field("status", &self.status())
+            .field("reason", &self.reason())
             .field("condition", &self.condition())
             .field("guess", &self.guess())
             .finish()
@@ -349,8 +364,9 @@ pub(super) fn fetch_stage(memory: &[u8], address: u64, rule: u8) -> (Decoding, u
             };
             (Decoding::new(instruction, constant), predicted)
         }
-        Err(status) => {
-            let nop = Instruction::new(address, (NOP, 0), (NONE, NONE), status);
+        Err(stop) => {
+            let nop =
+                Instruction::new(address, (NOP, 0), (NONE, NONE), stop.status).failed(stop.reason);
             (Decoding::new(nop, 0), address)
         }
     }

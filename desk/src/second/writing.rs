@@ -55,7 +55,7 @@ fn notation(parts: Parts) -> String {
 fn remark(memory: &[u8], address: usize) -> Option<String> {
     match fetch(memory, address as u64) {
         Ok(parts) => Some(notation(parts)),
-        Err(Status::Hlt) => Some("halt".into()),
+        Err(stop) if stop.status == Status::Hlt => Some("halt".into()),
         Err(_) => None,
     }
 }

@@ -2,6 +2,7 @@
 //! engines, and counts.
 #![allow(dead_code)]
 
+pub mod reasons;
 pub mod settings;
 pub mod tally;
 

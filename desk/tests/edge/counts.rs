@@ -1,10 +1,11 @@
 //! What turned up among the cases that were compared.
 
+use crate::common::reasons::{reason_name, REASONS};
 use crate::common::tally::{Classes, Tally};
 use desk::generate::Case;
 use desk::second::machine::{CYCLE_LIMIT, MEMORY_LIMIT, PROGRAM_LIMIT};
 use desk::second::pipeline::Pipeline;
-use desk::second::{Refusal, Status};
+use desk::second::{Reason, Refusal, Status};
 
 const NUMBERS: [&str; 8] = ["0", "1", "2", "3", "4", "5", "6", "7"];
 const BLOCKS: [&str; 4] = ["right", "empty", "short", "long"];
@@ -34,6 +35,7 @@ const CLASSES: &Classes = &[
             "budget spent",
         ],
     ),
+    ("failed fetch", &REASONS),
     ("refusal", &["1", "2", "3", "4", "5", "6"]),
     ("reasons to refuse", &["0", "1", "2", "3", "4", "5", "6"]),
     (
@@ -171,6 +173,7 @@ impl Counts {
         self.count("codes given", NUMBERS[case.codes as usize]);
         self.count("codes left", NUMBERS[record.codes.number() as usize]);
         self.count("stop", stop_class(record));
+        self.count("failed fetch", reason_name(record.fault.reason));
         let kept = record.kept.map_or(0, |kept| usize::from(kept.code()));
         self.count("last kept", INSTRUCTIONS[kept]);
         let kinds = record.kinds;
@@ -311,10 +314,9 @@ fn reasons(case: &Case) -> Vec<usize> {
     (1..=6).filter(|number| asked[number - 1]).collect()
 }
 
-/// Why a run ended. One that stopped still has its last instruction in W, and
-/// one that was fetched with a bad status is a nop there.
+/// Why a run ended.
 fn stop_class(record: &Pipeline) -> &'static str {
-    let fetched = record.w.is_some_and(|w| w.instruction.code() == 1);
+    let fetched = record.fault.reason != Reason::None;
     match record.status {
         Status::Aok => "budget spent",
         Status::Hlt => "HLT",

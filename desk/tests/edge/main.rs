@@ -5,6 +5,7 @@
 mod common;
 mod counts;
 mod figures;
+mod set;
 
 use counts::Counts;
 use desk::engine;

@@ -2,23 +2,24 @@
 //! lays them out.
 
 use desk::second::arithmetic::Codes;
+use desk::second::fault::{Fault, Reason};
 use desk::second::letter::{Accessed, Decoded, Executed, Instruction, Machine, Pipeline, Retired};
 use desk::second::machine::{Registers, Status};
 use desk::second::pipeline::{Kinds, Settings};
 
 /// Words in an instruction's part, and in a state part.
-pub const INSTRUCTION: usize = 9;
-const STATE: usize = 20;
+pub const INSTRUCTION: usize = 10;
+const STATE: usize = 22;
 
 /// The places of a pipeline block.
 const D: usize = 1;
-const E: usize = 10;
-const M: usize = 21;
-const W: usize = 33;
-const PIPELINE_STATE: usize = 46;
-const COUNTS: usize = 66;
-const KEPT: usize = 71;
-const SETTINGS: usize = 81;
+const E: usize = 11;
+const M: usize = 23;
+const W: usize = 36;
+const PIPELINE_STATE: usize = 50;
+const COUNTS: usize = 72;
+const KEPT: usize = 77;
+const SETTINGS: usize = 88;
 
 /// A record that a block can hold.
 pub trait Block: Sized {
@@ -31,6 +32,7 @@ pub trait Block: Sized {
 impl Block for Machine {
     fn words(&self) -> Vec<u64> {
         let mut words = state(&self.registers, self.codes, self.status, self.last);
+        words.extend(fault_words(self.fault));
         words.extend([self.address, self.count]);
         words
     }
@@ -43,6 +45,7 @@ impl Block for Machine {
             status: status(words[18]),
             last: words[19],
             count: words[STATE + 1],
+            fault: fault(words),
         }
     }
 }
@@ -51,7 +54,8 @@ impl Block for Pipeline {
     fn words(&self) -> Vec<u64> {
         let mut words = vec![0; SETTINGS + 2];
         words[0] = self.predicted;
-        let state = state(&self.registers, self.codes, self.status, self.last);
+        let mut state = state(&self.registers, self.codes, self.status, self.last);
+        state.extend(fault_words(self.fault));
         words[PIPELINE_STATE..][..STATE].copy_from_slice(&state);
         words[COUNTS] = self.retired;
         words[COUNTS + 1] = self.cycles;
@@ -108,16 +112,22 @@ impl Block for Pipeline {
                 rule: byte(words[SETTINGS]),
                 late: truth(words[SETTINGS + 1]),
             },
+            fault: fault(state),
         }
     }
 }
 
-/// The words of a state part.
+/// The first words of a state part; those of the fault follow.
 fn state(registers: &Registers, codes: Codes, status: Status, last: u64) -> Vec<u64> {
     let mut words = registers.0.to_vec();
     words.extend([codes.zero(), codes.sign(), codes.overflow()].map(u64::from));
     words.extend([status.number(), last]);
     words
+}
+
+/// The last words of a state part.
+fn fault_words(fault: Fault) -> [u64; 2] {
+    [fault.reason.number(), fault.address]
 }
 
 /// An instruction into its part, and what the stage adds behind it.
@@ -132,6 +142,7 @@ fn put(part: &mut [u64], instruction: &Instruction, own: &[u64]) {
         u64::from(instruction.rb),
         instruction.constant,
         instruction.next,
+        instruction.reason.number(),
     ];
     part[..INSTRUCTION].copy_from_slice(&words);
     part[INSTRUCTION..][..own.len()].copy_from_slice(own);
@@ -148,40 +159,41 @@ pub fn instruction(part: &[u64]) -> Option<Instruction> {
         rb: byte(part[6]),
         constant: part[7],
         next: part[8],
+        reason: reason(part[9]),
     })
 }
 
 fn e_from(part: &[u64]) -> Option<Decoded> {
     instruction(part).map(|instruction| Decoded {
         instruction,
-        a: part[9],
-        b: part[10],
+        a: part[INSTRUCTION],
+        b: part[INSTRUCTION + 1],
     })
 }
 
 fn m_from(part: &[u64]) -> Option<Executed> {
     instruction(part).map(|instruction| Executed {
         instruction,
-        a: part[9],
-        result: part[10],
-        holds: truth(part[11]),
+        a: part[INSTRUCTION],
+        result: part[INSTRUCTION + 1],
+        holds: truth(part[INSTRUCTION + 2]),
     })
 }
 
 fn w_from(part: &[u64]) -> Option<Accessed> {
     instruction(part).map(|instruction| Accessed {
         instruction,
-        result: part[9],
-        holds: truth(part[10]),
-        word: part[11],
-        status: status(part[12]),
+        result: part[INSTRUCTION],
+        holds: truth(part[INSTRUCTION + 1]),
+        word: part[INSTRUCTION + 2],
+        status: status(part[INSTRUCTION + 3]),
     })
 }
 
 fn kept_from(part: &[u64]) -> Option<Retired> {
     instruction(part).map(|instruction| Retired {
         instruction,
-        holds: truth(part[9]),
+        holds: truth(part[INSTRUCTION]),
     })
 }
 
@@ -191,6 +203,17 @@ fn registers(state: &[u64]) -> Registers {
 
 fn codes(state: &[u64]) -> Codes {
     Codes::new(truth(state[15]), truth(state[16]), truth(state[17]))
+}
+
+fn fault(state: &[u64]) -> Fault {
+    Fault {
+        reason: reason(state[20]),
+        address: state[21],
+    }
+}
+
+fn reason(word: u64) -> Reason {
+    Reason::from_number(word).unwrap_or_else(|| panic!("{word} is no reason"))
 }
 
 fn status(word: u64) -> Status {

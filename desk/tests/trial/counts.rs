@@ -1,5 +1,6 @@
 //! What turned up among the calls that were compared.
 
+use crate::common::reasons::{reason_name, REASONS};
 use crate::common::settings;
 use crate::common::tally::{Classes, Tally};
 use crate::entries::Engine;
@@ -62,6 +63,7 @@ pub const CLASSES: &Classes = &[
     ("plain record", &ORIGINS),
     ("plain status given", &STATUSES),
     ("plain status left", &STATUSES),
+    ("plain stopped for", &REASONS),
     ("plain memory", &SIZES),
     ("plain address given", &ADDRESSES),
     ("plain budget", &BUDGETS),
@@ -74,6 +76,8 @@ pub const CLASSES: &Classes = &[
     ("pipeline record", &ORIGINS),
     ("pipeline status given", &STATUSES),
     ("pipeline status left", &STATUSES),
+    ("pipeline stopped for", &REASONS),
+    ("pipeline stopped by hand for", &REASONS),
     ("pipeline memory", &SIZES),
     ("pipeline address given", &ADDRESSES),
     ("pipeline budget", &BUDGETS),
@@ -227,6 +231,7 @@ impl<R: Counted> Compared<'_, R> {
         tally.count(headings.record, origin_name(self.origin));
         tally.count(headings.given, status_name(self.given.record.status()));
         tally.count(headings.left, status_name(self.left.record.status()));
+        self.count_fault_left(tally);
         tally.count(headings.memory, size_name(self.given.memory.len()));
         let outside = self.given.record.next_address() >= self.given.memory.len() as u64;
         tally.count(headings.address, ADDRESSES[usize::from(outside)]);
@@ -243,6 +248,19 @@ impl<R: Counted> Compared<'_, R> {
             tally.count(headings.logs, name);
         }
     }
+
+    /// What a record that the call has stopped says of the fetch; those made by
+    /// hand may hold any reason with any status.
+    fn count_fault_left(&self, tally: &mut Tally) {
+        let running = |record: &R| record.status() == Status::Aok;
+        if running(&self.given.record) && !running(&self.left.record) {
+            let heading = match self.origin {
+                Origin::HandMade => R::HEADINGS.stopped_by_hand,
+                _ => R::HEADINGS.stopped,
+            };
+            tally.count(heading, reason_name(self.left.record.fault().reason));
+        }
+    }
 }
 
 /// The headings under which an engine's calls are counted.
@@ -253,6 +271,8 @@ pub struct Headings {
     record: &'static str,
     given: &'static str,
     left: &'static str,
+    stopped: &'static str,
+    stopped_by_hand: &'static str,
     budget: &'static str,
     logs: &'static str,
 }
@@ -274,6 +294,8 @@ impl Counted for Machine {
         record: "plain record",
         given: "plain status given",
         left: "plain status left",
+        stopped: "plain stopped for",
+        stopped_by_hand: "plain stopped for",
         budget: "plain budget",
         logs: "plain log",
     };
@@ -292,6 +314,8 @@ impl Counted for Pipeline {
         record: "pipeline record",
         given: "pipeline status given",
         left: "pipeline status left",
+        stopped: "pipeline stopped for",
+        stopped_by_hand: "pipeline stopped by hand for",
         budget: "pipeline budget",
         logs: "pipeline logs",
     };

@@ -3,7 +3,7 @@
 
 use crate::blocks::{instruction, Block, INSTRUCTION};
 use desk::generate::{Call, Record, Way};
-use desk::second::letter::{Instruction, Machine, Pipeline};
+use desk::second::letter::{Fetched, Instruction, Machine, Pipeline};
 use desk::second::machine::Refusal;
 use desk::second::pipeline::Logs;
 
@@ -273,9 +273,18 @@ fn pipe_run(call: &mut Call<Pipeline>) -> u64 {
     })
 }
 
-/// What the product answers to a fetch: the number, and the instruction.
-pub fn fetch(memory: &mut [u8], address: u64) -> (u64, Instruction) {
-    let mut block = [0; INSTRUCTION];
+/// A fetch's answer: the number, the instruction and the byte at fault.
+pub type Answer = (u64, Instruction, u64);
+
+/// What the letter answers to a fetch, with the number.
+pub fn numbered((answer, instruction, fault): Fetched) -> Answer {
+    (number(answer), instruction, fault)
+}
+
+/// What the product answers to a fetch.
+pub fn fetch(memory: &mut [u8], address: u64) -> Answer {
+    // The word behind the instruction takes the address of the byte at fault.
+    let mut block = [0; INSTRUCTION + 1];
     let answer = unsafe {
         trial_fetch(
             memory.as_mut_ptr(),
@@ -286,5 +295,5 @@ pub fn fetch(memory: &mut [u8], address: u64) -> (u64, Instruction) {
         )
     };
     let fetched = instruction(&block).expect("an instruction");
-    (answer, fetched)
+    (answer, fetched, block[INSTRUCTION])
 }

@@ -1,8 +1,9 @@
 //! Fetching by the product and by the letter, on memory of any size and at any
 //! address.
 
+use crate::common::reasons::{reason_name, REASONS};
 use crate::common::tally::{Classes, Tally};
-use crate::entries::{fetch, number};
+use crate::entries::{fetch, numbered};
 use desk::generate::Calls;
 use desk::second::letter;
 use desk::second::machine::{MEMORY_LIMIT, PROGRAM_LIMIT};
@@ -27,6 +28,7 @@ const CLASSES: &Classes = &[
             "popq", "iaddq", "HLT", "ADR", "INS",
         ],
     ),
+    ("failed for", &REASONS),
     ("filler of irmovq", &FILLERS),
     ("filler of iaddq", &FILLERS),
     ("filler of pushq", &FILLERS),
@@ -60,12 +62,14 @@ fn fetching_is_the_letters_equal() {
         let (mut memory, address) = calls.fetch();
         let given = memory.clone();
         let product = fetch(&mut memory, address);
-        let (answer, expected) = letter::fetch_open(&given, address);
-        assert_eq!(product, (number(answer), expected), "call {turn}");
+        let letter = letter::fetch_open(&given, address);
+        assert_eq!(product, numbered(letter), "call {turn}");
         assert!(memory == given, "call {turn}: fetching has written");
+        let (answer, expected, _) = letter;
         count(&mut tally, &given, &expected);
         if answer.is_ok() {
             count_filler(&mut tally, &given, &expected);
+            tally.count("failed for", reason_name(expected.reason));
         }
     }
     println!("compared {calls_made} fetches");

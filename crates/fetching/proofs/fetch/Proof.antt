@@ -9,14 +9,20 @@ size-refused-requires c κs = search needs
 stopping-requires : tie.Need-stopping-requires
 stopping-requires c κs = search needs
 
+blame-of-requires : tie.Need-blame-of-requires
+blame-of-requires c κs = search needs
+
 returns : tie.Need-returns
 returns c = search (needs, refused)
 
 instruction-at-requires : tie.Need-instruction-at-requires
 instruction-at-requires c κs = search needs
 
+blame-of-requires-2 : tie.Need-blame-of-requires-2
+blame-of-requires-2 c κs = search needs
+
 returns-2 : tie.Need-returns-2
 returns-2 c = search (needs, answered)
 
 pub fetch-spec : {M : Type 1} → statement M
-fetch-spec = tie.close (tie.spec size-refused-requires stopping-requires returns instruction-at-requires returns-2)
+fetch-spec = tie.close (tie.spec size-refused-requires stopping-requires blame-of-requires returns instruction-at-requires blame-of-requires-2 returns-2)

@@ -1,6 +1,6 @@
 -- A law of `Parse` for each way out, in the order of the checks. What is past all of them is the instruction. A `let` names the record of facts at a place
 -- by its type, for which `search` finds the place: `there` where the first byte is, `whole` where no byte is missing, `sized` behind the table's length.
-use Rattle.fetching.proofs.Parse.{room, outside, no-function, cut-short, names-none, halts, fetches, second}
+use Rattle.fetching.proofs.Parse.{room, end-lent, outside, no-function, cut-short, names-none, halts, fetches, second}
 use Prim.Native.Nat.{_-_}
 use lib.ListN.{length}
 use mathlib.Core.Path.{_∙_}
@@ -13,7 +13,7 @@ stopping-requires : tie.Need-stopping-requires
 stopping-requires c κs = search needs
 
 returns : tie.Need-returns
-returns c = search (needs, outside)
+returns c = search (needs, end-lent, outside)
 
 shared-slice-read-first : tie.Need-shared-slice-read-first
 shared-slice-read-first c = search needs
@@ -30,17 +30,20 @@ cast-whole c = search needs
 sub-whole : tie.Need-sub-whole
 sub-whole c = search needs
 
+not-in-table-requires : tie.Need-not-in-table-requires
+not-in-table-requires c κs = search needs
+
 stopping-requires-2 : tie.Need-stopping-requires-2
 stopping-requires-2 c κs = search needs
 
 returns-2 : tie.Need-returns-2
-returns-2 c = search (needs, no-function)
+returns-2 c = search (needs, end-lent, no-function)
 
 stopping-requires-3 : tie.Need-stopping-requires-3
 stopping-requires-3 c κs = search needs
 
 returns-3 : tie.Need-returns-3
-returns-3 c = search (needs, cut-short)
+returns-3 c = search (needs, end-lent, cut-short)
 
 byte-of-requires : tie.Need-byte-of-requires
 byte-of-requires c κs = search needs
@@ -63,13 +66,13 @@ stopping-requires-4 : tie.Need-stopping-requires-4
 stopping-requires-4 c κs = search needs
 
 returns-4 : tie.Need-returns-4
-returns-4 c = search (needs, names-none)
+returns-4 c = search (needs, end-lent, names-none)
 
 stopping-requires-5 : tie.Need-stopping-requires-5
 stopping-requires-5 c κs = search needs
 
 returns-5 : tie.Need-returns-5
-returns-5 c = search (needs, halts)
+returns-5 c = search (needs, end-lent, halts)
 
 constant-of-requires : tie.Need-constant-of-requires
 constant-of-requires c κs =
@@ -97,7 +100,7 @@ returns-6 c =
     let sized : tie.After-size-of = search in
     let functions : tie.After-functions-of = search in
     let there : tie.Else1 = search in
-    fetches _ _ _ (there .if1 .left) (functions .functions-of .ensures) _ (known .if2 .left) (sized .size-of .ensures) _ _ _ (whole .if3 .left)
+    fetches _ _ _ _ (end-lent _ _) (there .if1 .left) (functions .functions-of .ensures) _ (known .if2 .left) (sized .size-of .ensures) _ _ _ (whole .if3 .left)
     (byte .byte-of .ensures) (pair .register-byte .ensures) (tested .misnamed .ensures) _ _ (named .if4 .left) (runs .if5 .left)
     (constant .constant-of .ensures) (c .sum .ensures)
 
@@ -112,6 +115,7 @@ instruction-at-spec =
     size-of-requires
     cast-whole
     sub-whole
+    not-in-table-requires
     stopping-requires-2
     returns-2
     stopping-requires-3

@@ -4,6 +4,7 @@ use Rattle.machine.specs.declared.Codes.{Codes}
 use Rattle.clocked.specs.declared.Settings.{Settings}
 use Rattle.clocked.specs.declared.Pipeline.{Pipeline}
 use Rattle.machine.specs.Memory.{Registers}
+use Rattle.machine.specs.Fetch.{noBlame}
 use Rattle.clocked.specs.Charges.{noKinds}
 use Rattle.clocked.specs.Pipeline.{pipeStart}
 use Rattle.clocked.specs.PipeRuns.{pipeStartRefusal, pipeStarted}
@@ -20,7 +21,7 @@ start-refusal-requires : tie.Need-start-refusal-requires
 start-refusal-requires c κs = search needs
 
 returns : tie.Need-returns
-unfolding pipeStart noKinds
+unfolding pipeStart noKinds noBlame
 returns c = started _ _ _ _ _ _ (c .start-refusal .ensures)
 
 pub start-spec : {M : Type 1} → statement M

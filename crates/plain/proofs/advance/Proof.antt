@@ -20,6 +20,9 @@ access-requires c κs = search needs
 is-bad-requires : tie.Need-is-bad-requires
 is-bad-requires c κs = search needs
 
+blame-of-requires : tie.Need-blame-of-requires
+blame-of-requires c κs = search needs
+
 after-stop-requires : tie.Need-after-stop-requires
 after-stop-requires c κs = search needs
 
@@ -28,6 +31,7 @@ same-length c = search needs
 
 returns : tie.Need-returns
 returns c =
+    let blamed : tie.After-blame-of = search in
     let stops-here : tie.Then1 = search in
     let tested : tie.After-is-bad = search in
     let access : tie.After-access = search in
@@ -36,7 +40,7 @@ returns c =
     let fetch : tie.After-instruction-at = search in
     let start : tie.Start = search in
     stops _ _ _ _ _ _ _ (start .pre .1) (fetch .instruction-at .ensures) (decode .decoded .ensures) (execute .execute .ensures) (access .access .ensures)
-    (tested .is-bad .ensures) _ (stops-here .if1 .taken) (c .after-stop .ensures)
+    (tested .is-bad .ensures) _ _ (stops-here .if1 .taken) (blamed .blame-of .ensures) (c .after-stop .ensures)
 
 update-requires : tie.Need-update-requires
 update-requires c κs = search needs
@@ -69,6 +73,7 @@ advance-spec =
     execute-requires
     access-requires
     is-bad-requires
+    blame-of-requires
     after-stop-requires
     same-length
     returns

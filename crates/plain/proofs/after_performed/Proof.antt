@@ -22,8 +22,8 @@ new-codes-requires c κs = search needs
 next-address-requires : tie.Need-next-address-requires
 next-address-requires c κs = search needs
 
-add-t14 : tie.Need-add-t14
-add-t14 c = search needs
+add-count : tie.Need-add-count
+add-count c = search needs
 
 returns : tie.Need-returns
 returns c = search (needs, performed-is)
@@ -36,7 +36,7 @@ after-performed-spec =
     loaded-target-requires
     with-register-requires
     with-register-requires-2
+    add-count
     new-codes-requires
     next-address-requires
-    add-t14
     returns)

@@ -3,6 +3,7 @@ use Prim.Native.Nat.{ℕ}
 use Rattle.machine.specs.declared.Codes.{Codes}
 use Rattle.machine.specs.declared.Machine.{Machine}
 use Rattle.machine.specs.Memory.{Registers}
+use Rattle.machine.specs.Fetch.{noBlame}
 use Rattle.machine.specs.Plain.{plainStart}
 use Rattle.machine.specs.Runs.{startRefusal, plainStarted}
 use borrow.Author.Needs.{needs}
@@ -17,7 +18,7 @@ start-refusal-requires : tie.Need-start-refusal-requires
 start-refusal-requires c κs = search needs
 
 returns : tie.Need-returns
-unfolding plainStart
+unfolding plainStart noBlame
 returns c = started _ _ _ _ _ (c .start-refusal .ensures)
 
 pub start-spec : {M : Type 1} → statement M

@@ -2,7 +2,7 @@
 
 use super::pipeline::{Accessed, Decoded, Executed, Pipeline, Retired};
 use super::work::{codes_after, holds, result, Access};
-use super::{fetch, Instruction};
+use super::{fault_of, fetch, Instruction};
 use crate::second::arithmetic::Codes;
 use crate::second::machine::{Status, NONE};
 use crate::second::table::{CALL, JXX};
@@ -15,7 +15,7 @@ impl Pipeline {
         }
         let before = *self;
         self.cycles += 1;
-        self.retire();
+        self.retire(memory);
         if self.status != Status::Aok {
             return;
         }
@@ -57,14 +57,16 @@ impl Pipeline {
     }
 
     /// Retires what stands in W, if anything. With a bad status only counts,
-    /// status and last address change.
-    fn retire(&mut self) {
+    /// status, last address and what is said of its fetch change.
+    fn retire(&mut self, memory: &[u8]) {
         let Some(w) = self.w else { return };
         self.retired += 1;
         self.last = w.instruction.address;
         self.charge(&w.instruction);
         self.status = w.status;
-        if w.status == Status::Aok {
+        if w.status != Status::Aok {
+            self.fault = fault_of(&w.instruction, memory);
+        } else {
             self.registers
                 .set(w.instruction.result_target(w.holds), w.result);
             self.registers.set(w.instruction.loaded_target(), w.word);

@@ -2,6 +2,7 @@
 
 use super::refusals::{lowest, of_memory};
 use super::Instruction;
+use crate::second::fault::{Fault, Reason};
 use crate::second::machine::{Refusal, Status, NONE};
 use crate::second::table::NOP;
 
@@ -25,54 +26,108 @@ const TABLE: [(u64, u8, bool, bool); 16] = [
     (1, 0, false, false),
 ];
 
-/// Fetching as an operation of its own, with refusal 1 and the instruction.
-/// Refused, it gives what a fetch outside memory gives.
-pub fn fetch_open(memory: &[u8], address: u64) -> (Result<(), Refusal>, Instruction) {
+/// What fetching as an operation of its own answers: refusal 1, the
+/// instruction, and the address of the byte at fault, 0 for none (#107).
+pub type Fetched = (Result<(), Refusal>, Instruction, u64);
+
+/// Fetching as an operation of its own. Refused, it gives what a fetch outside
+/// memory gives.
+pub fn fetch_open(memory: &[u8], address: u64) -> Fetched {
     let reasons: Vec<Refusal> = of_memory(memory).into_iter().collect();
-    match lowest(&reasons) {
-        Ok(()) => (Ok(()), fetch(memory, address)),
-        refused => (refused, stopping(address, Status::Adr)),
+    let refused = lowest(&reasons);
+    let parsed = match refused {
+        Ok(()) => parse(memory, address),
+        Err(_) => Err(Bad::missing(Reason::FirstMissing, address)),
+    };
+    match parsed {
+        Ok(instruction) => (refused, instruction, 0),
+        Err(bad) => (refused, stopping(address, &bad), bad.fault.address),
     }
 }
 
 /// The instruction at an address.
 pub(super) fn fetch(memory: &[u8], address: u64) -> Instruction {
-    parse(memory, address).unwrap_or_else(|status| stopping(address, status))
+    parse(memory, address).unwrap_or_else(|bad| stopping(address, &bad))
+}
+
+/// What a stopping instruction says of its fetch, when it has stopped the
+/// machine. Its own reason counts, and a hand-made one may have any.
+pub(super) fn fault_of(instruction: &Instruction, memory: &[u8]) -> Fault {
+    let address = match instruction.reason {
+        Reason::None => 0,
+        Reason::FirstMissing | Reason::Code | Reason::Function => instruction.address,
+        Reason::LaterMissing => memory.len() as u64,
+        Reason::Register => instruction.address.wrapping_add(1),
+    };
+    Fault {
+        reason: instruction.reason,
+        address,
+    }
+}
+
+/// A bad status of a fetch, with the reason and the byte at fault.
+struct Bad {
+    status: Status,
+    fault: Fault,
+}
+
+impl Bad {
+    /// The byte at this address is missing.
+    fn missing(reason: Reason, address: u64) -> Bad {
+        let (status, fault) = (Status::Adr, Fault { reason, address });
+        Bad { status, fault }
+    }
+
+    /// The byte at this address is not as the table wants it.
+    fn unknown(reason: Reason, address: u64) -> Bad {
+        let (status, fault) = (Status::Ins, Fault { reason, address });
+        Bad { status, fault }
+    }
+
+    /// A halt is at no fault.
+    fn halt() -> Bad {
+        let (status, fault) = (Status::Hlt, Fault::default());
+        Bad { status, fault }
+    }
 }
 
 /// An instruction fetched with a bad status travels as a nop with that status,
 /// and its next address is its own.
-fn stopping(address: u64, status: Status) -> Instruction {
+fn stopping(address: u64, bad: &Bad) -> Instruction {
     Instruction {
         address,
-        status,
+        status: bad.status,
         code: NOP,
         function: 0,
         ra: NONE,
         rb: NONE,
         constant: 0,
         next: address,
+        reason: bad.fault.reason,
     }
 }
 
-fn parse(memory: &[u8], address: u64) -> Result<Instruction, Status> {
-    let first = byte(memory, address).ok_or(Status::Adr)?;
+fn parse(memory: &[u8], address: u64) -> Result<Instruction, Bad> {
+    let first = byte(memory, address).ok_or(Bad::missing(Reason::FirstMissing, address))?;
     let (code, function) = (first >> 4, first & 15);
     let (length, functions, names_a, names_b) = TABLE[usize::from(code)];
-    if function >= functions {
-        return Err(Status::Ins);
+    if functions == 0 {
+        return Err(Bad::unknown(Reason::Code, address));
     }
-    let later = later_bytes(memory, address, length).ok_or(Status::Adr)?;
+    if function >= functions {
+        return Err(Bad::unknown(Reason::Function, address));
+    }
+    let later = later_bytes(memory, address, length)?;
     // Only a named register is looked at, and only it may not be 15.
     let named = |names: bool, half: fn(u8) -> u8| match names {
-        true if half(later[0]) == NONE => Err(Status::Ins),
+        true if half(later[0]) == NONE => Err(Bad::unknown(Reason::Register, address + 1)),
         true => Ok(half(later[0])),
         false => Ok(NONE),
     };
     let ra = named(names_a, |byte| byte >> 4)?;
     let rb = named(names_b, |byte| byte & 15)?;
     if first == 0 {
-        return Err(Status::Hlt);
+        return Err(Bad::halt());
     }
     let constant = if length > 8 {
         &later[later.len() - 8..]
@@ -91,6 +146,7 @@ fn parse(memory: &[u8], address: u64) -> Result<Instruction, Status> {
             .rev()
             .fold(0, |sum, byte| sum << 8 | u64::from(*byte)),
         next: address.wrapping_add(length),
+        reason: Reason::None,
     })
 }
 
@@ -98,9 +154,9 @@ fn byte(memory: &[u8], address: u64) -> Option<u8> {
     memory.get(usize::try_from(address).ok()?).copied()
 }
 
-/// The bytes after the first, or none where one of them is outside.
-fn later_bytes(memory: &[u8], address: u64, length: u64) -> Option<Vec<u8>> {
-    (1..length)
-        .map(|place| byte(memory, address.checked_add(place)?))
+/// The bytes after the first, or the lowest address of those missing.
+fn later_bytes(memory: &[u8], address: u64, length: u64) -> Result<Vec<u8>, Bad> {
+    (address + 1..address + length)
+        .map(|at| byte(memory, at).ok_or(Bad::missing(Reason::LaterMissing, at)))
         .collect()
 }

@@ -1,5 +1,6 @@
 //! An instruction, and what its code says of it.
 
+use crate::second::fault::Reason;
 use crate::second::machine::{Status, NONE, RSP};
 use crate::second::table::{CALL, CMOV, IADDQ, IRMOVQ, JXX, MRMOVQ, OPQ, POPQ, PUSHQ, RET, RMMOVQ};
 
@@ -16,6 +17,8 @@ pub struct Instruction {
     pub constant: u64,
     /// The address after it. A record's own, whatever its code's length is.
     pub next: u64,
+    /// Why its fetch failed (#107).
+    pub reason: Reason,
 }
 
 impl Instruction {

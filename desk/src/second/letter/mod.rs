@@ -17,8 +17,8 @@ mod plain;
 mod refusals;
 mod work;
 
-use fetch::fetch;
-pub use fetch::fetch_open;
+use fetch::{fault_of, fetch};
+pub use fetch::{fetch_open, Fetched};
 pub use instruction::Instruction;
 pub use pipeline::{Accessed, Decoded, Executed, Pipeline, Retired};
 pub use plain::Machine;

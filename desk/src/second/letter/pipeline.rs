@@ -3,6 +3,7 @@
 use super::refusals::{lowest, of_budget, of_logs, of_memory, of_size, of_start};
 use super::Instruction;
 use crate::second::arithmetic::Codes;
+use crate::second::fault::Fault;
 use crate::second::machine::{Refusal, Registers, Status, CYCLE_LIMIT};
 use crate::second::pipeline::{Kinds, Logs, Settings};
 
@@ -59,6 +60,7 @@ pub struct Pipeline {
     pub kinds: Kinds,
     pub kept: Option<Retired>,
     pub settings: Settings,
+    pub fault: Fault,
 }
 
 impl Pipeline {
@@ -87,6 +89,7 @@ impl Pipeline {
             kinds: Kinds::default(),
             kept: None,
             settings,
+            fault: Fault::default(),
         })
     }
 

@@ -2,8 +2,9 @@
 
 use super::refusals::{lowest, of_budget, of_logs, of_memory, of_size, of_start};
 use super::work::{codes_after, holds, result, Access};
-use super::{fetch, Instruction};
+use super::{fault_of, fetch, Instruction};
 use crate::second::arithmetic::Codes;
+use crate::second::fault::Fault;
 use crate::second::machine::{Refusal, Registers, Status, PLAIN_LIMIT};
 use crate::second::table::{CALL, JXX, RET};
 
@@ -16,6 +17,7 @@ pub struct Machine {
     pub status: Status,
     pub last: u64,
     pub count: u64,
+    pub fault: Fault,
 }
 
 impl Machine {
@@ -34,6 +36,7 @@ impl Machine {
             status: Status::Aok,
             last: start,
             count: 0,
+            fault: Fault::default(),
         })
     }
 
@@ -82,8 +85,9 @@ impl Machine {
         self.count += 1;
         self.last = self.address;
         self.status = instruction.status;
-        if self.status == Status::Aok {
-            self.carry_out(&instruction, memory);
+        match self.status {
+            Status::Aok => self.carry_out(&instruction, memory),
+            _ => self.fault = fault_of(&instruction, memory),
         }
         Some(self.last)
     }
@@ -99,6 +103,7 @@ impl Machine {
         let access = Access::of(instruction, a, result);
         if access.is_outside(memory.len()) {
             self.status = Status::Adr;
+            self.fault = Fault::default();
             return;
         }
         let loaded = access.loaded(memory);

@@ -16,13 +16,13 @@ use Rattle.pipe.proofs.running.looped.Statement.{statement}
 use Rattle.pipe.proofs.running.looped.Tie as tie
 
 abbrev Inv-loop : tie.InvT-loop
-Inv-loop memory₀ budget addresses₀ cycles₀ settings first registers₀ flow₀ tally₀ status₀ done₀ memory addresses cycles registers flow tally status done =
-    Here settings (pipedOf (whole settings flow₀ tally₀ status₀ registers₀) (lent memory₀)) first addresses₀ cycles₀ done flow tally status registers
-    (lent memory) addresses cycles
+Inv-loop memory₀ budget addresses₀ cycles₀ settings first registers₀ flow₀ tally₀ status₀ blame₀ done₀ memory addresses cycles registers flow tally status blame done =
+    Here settings (pipedOf (whole settings flow₀ tally₀ status₀ registers₀ blame₀) (lent memory₀)) first addresses₀ cycles₀ done flow tally status registers
+    blame (lent memory) addresses cycles
     × (done ≤ budget) × (length memory ≡ length memory₀)
 
 abbrev μ-loop : tie.MeasureT-loop
-μ-loop memory₀ budget addresses₀ cycles₀ settings first registers₀ flow₀ tally₀ status₀ done₀ memory addresses cycles registers flow tally status done =
+μ-loop memory₀ budget addresses₀ cycles₀ settings first registers₀ flow₀ tally₀ status₀ blame₀ done₀ memory addresses cycles registers flow tally status blame done =
     budget - done
 
 abbrev At : Type 0
@@ -50,7 +50,8 @@ loop-holds : tie.Need-loop-holds Inv-loop μ-loop
 loop-holds c =
     let flowing : tie.After-flow-of Inv-loop μ-loop = search in
     let start : tie.Start Inv-loop μ-loop = search in
-    (here-first _ (flowing .flow-of .ensures) (long-of start) (c .tally-of .ensures) (start .pre .1) (omega (arith, start .pre .0)), omega arith, refl)
+    let counts : tie.After-tally-of Inv-loop μ-loop = search in
+    (here-first _ (flowing .flow-of .ensures) (long-of start) (counts .tally-of .ensures) (start .pre .1) (omega (arith, start .pre .0)), omega arith, refl)
 
 is-bad-requires : tie.Need-is-bad-requires Inv-loop μ-loop
 is-bad-requires c κs = search needs
@@ -85,6 +86,9 @@ add-done c =
 
 bad-in-w-requires : tie.Need-bad-in-w-requires Inv-loop μ-loop
 bad-in-w-requires c κs = search needs
+
+blame-in-requires : tie.Need-blame-in-requires Inv-loop μ-loop
+blame-in-requires c κs = search needs
 
 advance-requires : tie.Need-advance-requires Inv-loop μ-loop
 advance-requires c κs =
@@ -131,15 +135,15 @@ returns c =
     let inv = at .loop .inv in
     let from = same-start (flowing .flow-of .ensures) (counts .tally-of .ensures) in
     ⊎-elim
-    (λ (over, ea, ey, et, ex, ed). at-budget _ from (inv .0) (c .put-together .ensures) ea ey et ex (omega (arith, inv .1)))
+    (λ (over, ea, ey, et, ex, ez, ed). at-budget _ from (inv .0) (c .put-together .ensures) ez ea ey et ex (omega (arith, inv .1)))
     (⊎-elim
-    (λ (turn, bad, stopped, ea, ey, et, ex, ed).
-    at-stop _ from (inv .0) (c .put-together .ensures) ea ey et ex (inv .1) (sym (bad .ensures) ∙ stopped .taken))
-    (λ (turn, bad, runs, w, retired, counted, status, lent, entered, addresses, known, lent′, timed, cycles, known′, tested, stops, ea, ey, et, ex, ed).
+    (λ (turn, bad, stopped, ea, ey, et, ex, ez, ed).
+    at-stop _ from (inv .0) (c .put-together .ensures) ez ea ey et ex (inv .1) (sym (bad .ensures) ∙ stopped .taken))
+    (λ (turn, bad, runs, w, retired, counted, status, lent, entered, addresses, known, lent′, timed, cycles, known′, tested, stops, share, blamed, ea, ey, et, ex, ez, ed).
     let h =
     here-stopped (inv .0) (bad .ensures) (runs .left) (retired .ensures) (counted .ensures) (status .ensures) (entered .ensures) (timed .ensures)
-    (tested .ensures) (stops .taken) in
-    at-stop _ from (h .0) (c .put-together .ensures) ea ey et ex (omega (arith, turn .taken)) (h .1)))
+    (tested .ensures) (stops .taken) (blamed .ensures) in
+    at-stop _ from (h .0) (c .put-together .ensures) ez ea ey et ex (omega (arith, turn .taken)) (h .1)))
     (c .before .loop-test .came)
 
 same-length : tie.Need-same-length Inv-loop μ-loop
@@ -171,6 +175,7 @@ looped-spec =
     note-requires-2
     add-done
     bad-in-w-requires
+    blame-in-requires
     advance-requires
     loop-less
     loop-again

@@ -1,10 +1,10 @@
-use Rattle.stage.proofs.Ways.{holds-d, returning-d, enters-d}
+use Rattle.stage.proofs.Ways.{cancels-d, holds-d, returning-d, enters-d}
 use borrow.Author.Needs.{needs}
 use Rattle.stage.proofs.controls.next_d.Statement.{statement}
 use Rattle.stage.proofs.controls.next_d.Tie as tie
 
 returns : tie.Need-returns
-returns c = search needs
+returns c = search (needs, cancels-d)
 
 held-d-requires : tie.Need-held-d-requires
 held-d-requires c κs = search needs

@@ -1,5 +1,6 @@
 use Rattle.writing.proofs.There.{starts-is}
-use Rattle.machine.specs.Memory.{lent}
+use mathlib.Core.Path.{refl}
+use Rattle.machine.specs.Memory.{lent, codeEnd}
 use native.Mathlib.Omega.{arith}
 use borrow.Author.Needs.{needs}
 use Rattle.writing.proofs.reaching.starts.Statement.{statement}
@@ -33,12 +34,13 @@ refused-requires : tie.Need-refused-requires
 refused-requires c κs = search needs
 
 returns : tie.Need-returns
+unfolding codeEnd
 returns c =
     let tested : tie.After-refused = search in
     let pair : tie.After-byte-at2 = search in
     let first : tie.After-byte-at = search in
     let start : tie.Start = search in
-    starts-is (lent (start .args .memory .now)) (start .args .address) (start .pre .0) _ _ _ _ (start .pre .1) (first .byte-at .ensures) (pair .byte-at2 .ensures)
+    starts-is (lent (start .args .memory .now)) (start .args .address) (start .pre .0) refl _ _ _ _ (start .pre .1) (first .byte-at .ensures) (pair .byte-at2 .ensures)
     (omega arith) (tested .refused .ensures)
 
 pub starts-spec : {M : Type 1} → statement M
