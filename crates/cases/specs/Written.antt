@@ -1,19 +1,28 @@
 -- #104: listings and instructions written, worked out by hand, and the refusals at their ends, in one table.
-use Prim.Native.Nat.{ℕ, _-_, _^_}
+use Prim.Native.Nat.{ℕ, _-_, _^_, _<_, _≤_}
 use Prim.Native.String.{String}
 use mathlib.Core.Bool.{Bool, true, _&&_}
 use mathlib.Core.List.{List, [], _∷_, _++_}
-use mathlib.Core.Path.{_≡_, refl}
+use mathlib.Core.Path.{_≡_, refl, ap, _∙_}
 use lib.Dec.{eqb}
-use lib.ListN.{length, drop, replicate}
+use native.Mathlib.Omega.{arith}
+use lib.ListN.{length, take, drop, replicate}
+use lib.Seq.{sets}
+use borrow.Author.Tests.{ne-eqb, le-ltb}
+use Rattle.machine.specs.Memory.{lent}
+use Rattle.machine.specs.Runs.{sizeRefused, lowest}
 use Rattle.text.specs.Bytes.{bytes}
+use Rattle.text.specs.Parts.{lines}
 use Rattle.text.specs.Decimal.{digits, decimal}
 use Rattle.listing.specs.Grammar as grammar
+use Rattle.listing.specs.Reading.{records, done, listed}
+use Rattle.listing_edge.specs.Listings.{listingRefusal, told, listingEdge, toldOf, listingRead}
 use Rattle.register_lines.specs.Registers.{registerNames, registerName}
 use Rattle.encoding.specs.Encode.{Fields, fields, encodeRefused, leastFirst, pair, tail, form}
 use Rattle.writing.specs.HexText.{hexDigit, hexDigits, hexText, hexPairs}
 use Rattle.writing.specs.Remark.{mnemonics, mnemonic, operandsOf, register, operands, remark}
 use Rattle.writing.specs.Text.{starts, startsAt, withinEnd, whole, crosses, lineBytes, lineAt, linesFrom, listingOf}
+use Rattle.writing.specs.Back.{Bytes, reads-back}
 use Rattle.writing_edge.specs.Writings.{Written, fitted, encodeRefusal, encoded, rangeRefused, listRefusal, listingWritten}
 use Rattle.records.specs.Given.{image}
 use Rattle.records.specs.Looks.{same}
@@ -161,3 +170,15 @@ formsHold (c ∷ cs) = leaves (encoded (lentFor (c .1)) (replicate (c .2) 9) (c 
 pub written-hold : (rangesHold ranges ≡ true) × (refusalsHold asked ≡ true) × (formsHold forms ≡ true)
 unfolding computing leaves ranges rangesHold asked refusalsHold forms formsHold bytes digits decimal grammar.remarked grammar.line grammar.written registerNames registerName encodeRefused leastFirst pair tail form hexDigit hexDigits hexText hexPairs mnemonics mnemonic operandsOf register operands remark starts startsAt withinEnd whole crosses lineBytes lineAt linesFrom listingOf fitted encodeRefusal encoded rangeRefused listRefusal listingWritten
 written-hold = (refl, refl, refl)
+
+-- "Reading the listing with #103 gives the same bytes in that range", by the exported functions: what is written is read into any memory as large as
+-- the bytes of the range, all others 0
+pub written-read : (m other fault : List ℕ) (start end : ℕ) → Bytes m → 0 < length m → length m ≤ 65536 → start ≤ end → end ≤ length m
+    → length other ≡ length m → length fault ≡ 16
+    → listingRead (listingOf (lent m) start end) other fault
+    ≡ listingEdge 0 (sets (replicate (length m) 0) start (take (end - start) (drop start m))) fault
+unfolding listingRead listingRefusal lowest sizeRefused toldOf told listed done
+written-read m other fault start end b some most h i size block =
+    let back = reads-back (lent m) start end b h i (omega arith) in
+    let image = ap (λ (n : ℕ). grammar.imageOf n (records (lines (listingOf (lent m) start end)))) size ∙ back .1 in
+    rw (size, ne-eqb (length m) 0 (λ e. omega arith), le-ltb 65536 (length m) most, block, back .0, image) refl
