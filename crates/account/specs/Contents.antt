@@ -2,7 +2,7 @@
 use Prim.Native.Nat.{ℕ, zero, suc, _+_, _/_, _%_, _≤_, _<_}
 use mathlib.Core.Bool.{Bool, true, false, cond, _&&_, _||_}
 use mathlib.Core.List.{List, [], _∷_}
-use mathlib.Core.Path.{_≡_, refl, sym, _∙_, subst}
+use mathlib.Core.Path.{_≡_, refl, ap, sym, _∙_, subst}
 use native.Mathlib.Omega.{arith}
 use native.Mathlib.Decide.{decLt, ℕ-discrete}
 use native.Mathlib.Nat.{div-lt-iff-lt-mul, mod-lt}
@@ -13,20 +13,21 @@ use lib.Seq.{getD-set-same, getD-set-other, getD-drop}
 use Rattle.account.specs.Names.{Pipeline, Status, Fault, Instruction, Executed, Accessed, Kept}
 use Rattle.account.specs.Names.{StageD, bubbleD, inD, StageE, bubbleE, inE, StageM, bubbleM, inM, StageW, bubbleW, inW}
 use Rattle.machine.specs.Words.{placed}
-use Rattle.machine.specs.Memory.{Memory, codeEnd, lent, size, inside, store}
+use Rattle.machine.specs.Memory.{Memory, codeEnd, holding, size, inside, store}
 use Rattle.machine.specs.Table.{rowOf, table, is, cmov, jump, operation}
 use Rattle.machine.specs.Fetch.{fetch, parsed, stopping, half, ownBytes, sizeAt}
 use Rattle.machine.specs.Stages.{decode, execute, access, stores, accessAddress, storedWord, newMemory}
 use Rattle.clocked.specs.Prediction.{Core}
 use Rattle.clocked.specs.Charges.{retiredOf}
-use Rattle.clocked.specs.Pipeline.{Piped, pipeStart, afterE, afterM, handed, executing, memoryAfter, mispredicts, waits, returns, fails, fetchedNow}
+use Rattle.clocked.specs.Pipeline.{Piped, pipeStart, afterE, afterM, handed, executing, memoryAfter, mispredicts, waits, returns, fails, cancels, fetchedNow}
 use Rattle.clocked.specs.Pipeline.{fetchAddress, nextD, decodedD, nextE, nextM, keptAfter, advanced, stoppedIn, clock, clocks}
 use Rattle.clocked.specs.PipeRuns.{instructionRefused, refusedInD, refusedInE, refusedInM, refusedInW, refusedKept, countsRefused}
-use Rattle.machine.specs.Runs.{sizeRefused, budgetRefused, logRefused, lowest}
+use Rattle.machine.specs.Runs.{sizeRefused, budgetRefused, logRefused, windowRefused, lowest}
 use Rattle.clocked.specs.PipeRuns.{settingsRefused, recordRefused, pipeLimit, pipeRefusal}
 use Rattle.account.specs.Statement.{Start, pipedFrom}
 use Rattle.account.specs.Laws.{checked-any}
 use Rattle.laws.specs.Tests.{neither}
+use Rattle.clock_laws.specs.Settings.{clocks-keep}
 use Rattle.account.specs.Sight.{size-newMemory}
 use Rattle.account.specs.Timing.{total}
 use Rattle.account.specs.Retirement.{clock-any}
@@ -66,7 +67,7 @@ bytes-stored : (x : Executed) (m : Memory) → Bytes (m .bytes) → Bytes (newMe
 unfolding newMemory store
 bytes-stored x m h = go (stores (x .instruction)) (inside m (accessAddress x))
   where
-    go : (b c : Bool) → Bytes (cond b (cond c (lent (placed 8 (m .bytes) (accessAddress x) (storedWord x))) m) m .bytes)
+    go : (b c : Bool) → Bytes (cond b (cond c (holding m (placed 8 (m .bytes) (accessAddress x) (storedWord x))) m) m .bytes)
     go false c = h
     go true false = h
     go true true = bytes-placed 8 (m .bytes) (accessAddress x) (storedWord x) h
@@ -157,12 +158,12 @@ module _ (g : Core) (p : Piped) (h : Fits p) where
       record {
         bytes = bytes-after (p .pipeline .m) (p .memory) (h .bytes);
         inD′ =
-            cond-any (λ d. refusedInD d ≡ false) (mispredicts g p) _ _ refl
+            cond-any (λ d. refusedInD d ≡ false) (cancels p || mispredicts g p) _ _ refl
             (cond-any (λ d. refusedInD d ≡ false) (waits g p) _ _ (h .inD′)
             (cond-any (λ d. refusedInD d ≡ false) (returns p) _ _ refl (fetch-fits (p .memory) (fetchAddress g p) (h .bytes))));
-        inE′ = cond-any (λ e. refusedInE e ≡ false) (mispredicts g p || waits g p) _ _ refl (decoded-fits g p (p .pipeline .d) (h .inD′));
+        inE′ = cond-any (λ e. refusedInE e ≡ false) (cancels p || (mispredicts g p || waits g p)) _ _ refl (decoded-fits g p (p .pipeline .d) (h .inD′));
         inM′ =
-            cond-any (λ m. refusedInM m ≡ false) (fails p) _ _ refl
+            cond-any (λ m. refusedInM m ≡ false) (cancels p || fails p) _ _ refl
             (executed-fits p (executing g p) (handed-fits g (afterM (p .pipeline .m) (p .memory)) (p .pipeline .e) (h .inE′)));
         inW′ = accessed-fits p (p .pipeline .m) (h .inM′);
         kept = kept-fits (p .pipeline .w) (p .pipeline .kept) (h .inW′) (h .kept);
@@ -187,12 +188,19 @@ last-failed false false true d h = absurd (omega arith)
 last-failed false false false true h = absurd (omega arith)
 last-failed false false false false h = refl
 
+-- of a run that is not refused the record's contents and its window are not
+contents-fit : (k : Pipeline) (size budget : ℕ) (logs : List ℕ) → pipeRefusal k size budget logs ≡ 0
+    → (recordRefused k ≡ false) × (windowRefused (k .settings .window) size ≡ false)
+unfolding pipeRefusal lowest
+contents-fit k size budget logs h =
+    neither (recordRefused k) (windowRefused (k .settings .window) size)
+    (last-failed (sizeRefused size) (budgetRefused pipeLimit (k .cycles) budget) (logRefused logs budget) (recordRefused k || windowRefused (k .settings .window) size) h)
+
 -- a record that is not refused has one of the rules
 pub settings-known : (k : Pipeline) (size budget : ℕ) (logs : List ℕ) → pipeRefusal k size budget logs ≡ 0 → settingsRefused (k .settings) ≡ false
 unfolding pipeRefusal lowest recordRefused
 settings-known k size budget logs h =
-    neither (settingsRefused (k .settings)) _
-    (last-failed (sizeRefused size) (budgetRefused pipeLimit (k .cycles) budget) (logRefused logs budget) (recordRefused k) h) .0
+    neither (settingsRefused (k .settings)) _ (contents-fit k size budget logs h .0) .0
 
 -- THE COUNTS
 counts-fit : (p : Piped) → p .pipeline .retired + total (p .pipeline .kinds) ≤ p .pipeline .cycles → countsRefused (p .pipeline) ≡ false
@@ -203,6 +211,7 @@ counts-fit p h =
       le-ltb (p .pipeline .cycles) (p .pipeline .kinds .loaduse) (omega arith),
       le-ltb (p .pipeline .cycles) (p .pipeline .kinds .mispredict) (omega arith),
       le-ltb (p .pipeline .cycles) (p .pipeline .kinds .returned) (omega arith),
+      le-ltb (p .pipeline .cycles) (p .pipeline .kinds .patched) (omega arith),
     )
 
 module _ (g : Core) (t : Start) (h : Bytes (t .memory .bytes)) (known : settingsRefused (t .settings) ≡ false) where
@@ -219,12 +228,17 @@ module _ (g : Core) (t : Start) (h : Bytes (t .memory .bytes)) (known : settings
       let k = fits-clocks c in
       cc (counts-fit (clocks g (pipedFrom t) c) (counts-within g t c))
 
-  -- so whoever gives it a size, a budget and logs that fit is not refused
-  pub continues : (c size budget : ℕ) (logs : List ℕ) → sizeRefused size ≡ false
+  -- its window is the one it was started with
+  window-stays : (c : ℕ) → clocks g (pipedFrom t) c .pipeline .settings .window ≡ t .settings .window
+  unfolding pipedFrom pipeStart
+  window-stays c = ap (λ s. s .window) (clocks-keep g (pipedFrom t) c)
+
+  -- so whoever gives it a size that the window fits, a budget and logs that fit is not refused
+  pub continues : (c size budget : ℕ) (logs : List ℕ) → windowRefused (t .settings .window) size ≡ false → sizeRefused size ≡ false
       → budgetRefused pipeLimit (clocks g (pipedFrom t) c .pipeline .cycles) budget ≡ false
       → logRefused logs budget ≡ false → pipeRefusal (clocks g (pipedFrom t) c .pipeline) size budget logs ≡ 0
   unfolding pipeRefusal lowest
-  continues c size budget logs a b d = cc (never-refused c)
+  continues c size budget logs w a b d = cc (never-refused c, window-stays c)
 
   -- CLOCK BY CLOCK: memory keeps its size, and a clock counts one cycle at most
   record Within (p : Piped) (c : ℕ) : Type 0 where
@@ -245,10 +259,14 @@ module _ (g : Core) (t : Start) (h : Bytes (t .memory .bytes)) (known : settings
 
   -- so where a run of n is not refused, neither is a shorter one, nor any of n clocks made one by one
   module _ (n : ℕ) (r : pipeRefusal (pipedFrom t .pipeline) (size (t .memory)) n [] ≡ 0) where
+    fitting : windowRefused (t .settings .window) (size (t .memory)) ≡ false
+    unfolding pipedFrom pipeStart
+    fitting = contents-fit (pipedFrom t .pipeline) (size (t .memory)) n [] r .1
+
     in-limit : (sizeRefused (size (t .memory)) ≡ false) × (n ≤ pipeLimit)
     unfolding pipeRefusal lowest budgetRefused pipedFrom pipeStart
     in-limit =
-        let later : ℕ = cond (logRefused [] n) 4 (cond (recordRefused (pipedFrom t .pipeline)) 5 0) in
+        let later : ℕ = cond (logRefused [] n) 4 (cond (recordRefused (pipedFrom t .pipeline) || windowRefused (t .settings .window) (size (t .memory))) 5 0) in
         let f = tests-failed (sizeRefused (size (t .memory))) (budgetRefused pipeLimit 0 n) later r in
         (f .0, omega (arith, ltb-false pipeLimit (0 + n) (neither (eqb n 0) (ltb pipeLimit (0 + n)) (f .1) .1)))
 
@@ -256,11 +274,11 @@ module _ (g : Core) (t : Start) (h : Bytes (t .memory .bytes)) (known : settings
     unfolding budgetRefused logRefused clocks pipedFrom pipeStart
     shorter i h =
         let below : ltb pipeLimit (0 + suc i) ≡ false = le-ltb pipeLimit (0 + suc i) (omega (arith, in-limit .1)) in
-        continues 0 (size (t .memory)) (suc i) [] (in-limit .0) (cc (eqb·suc-zero i)) refl
+        continues 0 (size (t .memory)) (suc i) [] fitting (in-limit .0) (cc (eqb·suc-zero i)) refl
 
     pub each-clock : (i : ℕ) → i < n → let p = clocks g (pipedFrom t) i in pipeRefusal (p .pipeline) (size (p .memory)) 1 [] ≡ 0
     unfolding budgetRefused logRefused
     each-clock i h =
         let k = within-clocks i in
         let c = clocks g (pipedFrom t) i .pipeline .cycles in
-        continues i _ 1 [] (rw (k .sized) (in-limit .0)) (le-ltb pipeLimit (c + 1) (omega (arith, in-limit .1, k .cycles))) refl
+        continues i _ 1 [] (rw (k .sized) fitting) (rw (k .sized) (in-limit .0)) (le-ltb pipeLimit (c + 1) (omega (arith, in-limit .1, k .cycles))) refl

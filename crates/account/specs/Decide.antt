@@ -6,11 +6,12 @@ use mathlib.Core.Path.{_≡_, refl, sym, _∙_, subst}
 use native.Mathlib.Omega.{arith}
 use borrow.Author.Tests.{ltb-true, leb-true, lt-ltb, le-leb, lt-leb, leb-false}
 use lib.Dec.{ltb, leb}
+use Rattle.machine.specs.Types.{isSet}
 use Rattle.machine.specs.Memory.{codeEnd, inside}
 use Rattle.machine.specs.Fetch.{sizeAt}
 use Rattle.machine.specs.Stages.{stores, accessAddress}
 use Rattle.machine.specs.Plain.{Plain, isStopped, fetched, executed, steps}
-use Rattle.clocked.specs.Premise.{writesByte, hasByte, Untouched}
+use Rattle.clocked.specs.Premise.{writesByte, hasByte, Premise}
 use Rattle.account.specs.Sight.{both, size-positive}
 use Rattle.account.specs.Timing.{up-to}
 
@@ -145,6 +146,14 @@ module _ (w : ℕ) (s : Plain) (K : ℕ) where
               let l = leb-false n d f in
               absurd (u (n - suc d) n (omega arith) (omega arith) q e (m .0) (m .1) (m .2))
 
--- the premise as demand 3 has it
-pub decided : (s : Plain) (K : ℕ) → (untouched 3 s K ≡ true) ↔ Untouched s K
-decided s K = (untouched-sound 3 s K, untouched-complete 3 s K)
+-- the premise as demand 3 has it: with a window set, nothing is asked
+unfoldable pub asked : Plain → ℕ → Bool
+asked s K = isSet (s .memory .window) || untouched 3 s K
+
+pub decided : (s : Plain) (K : ℕ) → (asked s K ≡ true) ↔ Premise s K
+unfolding asked
+decided s K = (λ h o. untouched-sound 3 s K (cc), λ u. go (isSet (s .memory .window)) refl u)
+  where
+    go : (b : Bool) → isSet (s .memory .window) ≡ b → Premise s K → asked s K ≡ true
+    go true e u = cc
+    go false e u = cc (untouched-complete 3 s K (u e))

@@ -6,14 +6,13 @@ use mathlib.Core.Path.{_≡_, refl, ap, sym, _∙_}
 use native.Mathlib.Omega.{arith}
 use lib.ListN.{length, getD, replicate}
 use Rattle.account.specs.Names.{Status, aok, hlt, adr, ins, Codes, Kinds}
-use Rattle.machine.specs.Types.{statusNumber, isBad}
+use Rattle.machine.specs.Types.{statusNumber, isBad, isSet}
 use Rattle.machine.specs.Memory.{Memory, lent, Registers}
 use Rattle.machine.specs.Table.{unknownByte}
 use Rattle.machine.specs.Plain.{Plain, isStopped, steps}
 use Rattle.clocked.specs.Prediction.{Core, core01, asIn01}
 use Rattle.clocked.specs.Charges.{due}
 use Rattle.clocked.specs.Pipeline.{Piped, clocks}
-use Rattle.clocked.specs.Premise.{Untouched}
 use Rattle.clocked.specs.Computing.{computing}
 use Rattle.account.specs.Statement.{Start, plainFrom, pipedFrom, Agrees, Demand3}
 use Rattle.account.specs.Decide.{UntouchedWithin, untouched, untouched-sound, touches, clear, all}
@@ -74,7 +73,7 @@ reached x =
       last = 19;
       retired = 7;
       cycles = 17;
-      kinds = record { loaduse = 1; mispredict = 2; returned = 3 };
+      kinds = record { loaduse = 1; mispredict = 2; returned = 3; patched = 0 };
     }
 
 -- the premise is met, every kind of charge is made, and each stop is reached: by a halt, a ret whose word is outside, and a code without functions
@@ -99,7 +98,7 @@ patched b x a n c =
       last = a;
       retired = n;
       cycles = c;
-      kinds = record { loaduse = 0; mispredict = 0; returned = 0 };
+      kinds = record { loaduse = 0; mispredict = 0; returned = 0; patched = 0 };
     }
 
 -- no store writes a byte of the next two, one writes a byte of the next three; the plain engine stops at 12, the pipeline goes on and stops at 13
@@ -110,7 +109,7 @@ two-differ = (refl, refl)
 -- demand 3 with w instructions in place of three, reaching as far as instruction reach k is due, and with R said after every clock
 abbrev pub Demand3Of : ℕ → (ℕ → ℕ) → (Core → Plain → Piped → (c n : ℕ) → Type 0) → Type 0
 Demand3Of w reach R =
-    (g : Core) (t : Start) → length (t .registers) ≡ 15 → (k : ℕ) → UntouchedWithin w (plainFrom t) (suc k)
+    (g : Core) (t : Start) → length (t .registers) ≡ 15 → (k : ℕ) → (isSet (plainFrom t .memory .window) ≡ false → UntouchedWithin w (plainFrom t) (suc k))
     → (c : ℕ) → c ≤ due g (plainFrom t) (reach k) → (n : ℕ) × R g (plainFrom t) (clocks g (pipedFrom t) c) c n
 
 -- demand 3 itself
@@ -129,20 +128,20 @@ goes-on x =
 -- with two it is false
 pub two-are-too-few : Demand3Of 2 suc Agrees → ⊥
 unfolding figures patching
-two-are-too-few d = goes-on (d core01 (from patching) refl 3 (untouched-sound 2 (plainFrom (from patching)) 4 refl) 8 (omega arith))
+two-are-too-few d = goes-on (d core01 (from patching) refl 3 (λ _. untouched-sound 2 (plainFrom (from patching)) 4 refl) 8 (omega arith))
 
 -- THE EDITS OF THE STATEMENT (must-fail/), each false and not only unproved
 -- one_instruction_too_far: the store meets the premise as far as instruction 3, and instruction 4 is the one written into
 pub one-too-far : Demand3Of 3 (λ k. suc (suc k)) Agrees → ⊥
 unfolding figures patching
-one-too-far d = goes-on (d core01 (from patching) refl 2 (untouched-sound 3 (plainFrom (from patching)) 3 refl) 8 (omega arith))
+one-too-far d = goes-on (d core01 (from patching) refl 2 (λ _. untouched-sound 3 (plainFrom (from patching)) 3 refl) 8 (omega arith))
 
 -- registers_ahead, by the fields that it has: at the start, before irmovq $64, %rsp
 pub registers-ahead : Demand3Of 3 suc (λ g s p c n. (p .pipeline .retired ≡ n) × (p .pipeline .registers ≡ steps s (suc n) .machine .registers)) → ⊥
 unfolding figures program
 registers-ahead d =
     let s = plainFrom (from (program 0)) in
-    let x = d core01 (from (program 0)) refl 6 (untouched-sound 3 s 7 refl) 0 (omega arith) in
+    let x = d core01 (from (program 0)) refl 6 (λ _. untouched-sound 3 s 7 refl) 0 (omega arith) in
     let none : 0 ≡ x .0 = x .1 .0 in
     let clash : _≡_ {A = ℕ} 0 64 = ap (λ (r : Registers). getD r 4 0) (x .1 .1 ∙ ap (λ (n : ℕ). steps s (suc n) .machine .registers) (sym none)) in
     omega arith
@@ -152,7 +151,7 @@ pub a-cycle-early : Demand3Of 3 suc (λ g s p c n. (p .pipeline .retired ≡ n) 
 unfolding figures program
 a-cycle-early d =
     let s = plainFrom (from (program 0)) in
-    let x = d core01 (from (program 0)) refl 6 (untouched-sound 3 s 7 refl) 4 (omega arith) in
+    let x = d core01 (from (program 0)) refl 6 (λ _. untouched-sound 3 s 7 refl) 4 (omega arith) in
     let none : 0 ≡ x .0 = x .1 .0 in
     let late : suc 4 < due core01 s (suc 0) = rw (sym none) at (x .1 .1) refl in
     omega arith
@@ -163,7 +162,7 @@ pub memory-runs-ahead : Demand3Of 3 suc (λ g s p c n. Agrees g s p c n × (p .m
 unfolding figures program
 memory-runs-ahead d =
     let s = plainFrom (from (program 0)) in
-    let x = d core01 (from (program 0)) refl 6 (untouched-sound 3 s 7 refl) 5 (omega arith) in
+    let x = d core01 (from (program 0)) refl 6 (λ _. untouched-sound 3 s 7 refl) 5 (omega arith) in
     let one : 1 ≡ x .0 = x .1 .0 .retired in
     let clash : _≡_ {A = ℕ} 19 0 = ap (λ (m : Memory). getD (m .bytes) 56 0) (x .1 .1 ∙ ap (λ (n : ℕ). steps s n .memory) (sym one)) in
     omega arith
@@ -173,6 +172,6 @@ pub codes-run-ahead : Demand3Of 3 suc (λ g s p c n. Agrees g s p c n × (p .pip
 unfolding figures program
 codes-run-ahead d =
     let s = plainFrom (from (program 0)) in
-    let x = d core01 (from (program 0)) refl 6 (untouched-sound 3 s 7 refl) 7 (omega arith) in
+    let x = d core01 (from (program 0)) refl 6 (λ _. untouched-sound 3 s 7 refl) 7 (omega arith) in
     let three : 3 ≡ x .0 = x .1 .0 .retired in
     true≢false (sym (ap (λ (c : Codes). c .zf) (x .1 .1 ∙ ap (λ (n : ℕ). steps s n .machine .codes) (sym three))))

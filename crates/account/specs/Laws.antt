@@ -8,12 +8,13 @@ use native.Mathlib.Omega.{arith}
 use borrow.Author.Tests.{eqb-true}
 use lib.Dec.{T, eqb}
 use lib.ListN.{length}
-use Rattle.account.specs.Names.{Status, hlt, adr, ins, Fault, noFault, firstMissing, laterMissing, noRegister, Codes, Instruction, Decoded, Retired, inM, inW}
+use Rattle.account.specs.Names.{Status, hlt, adr, ins, Fault, noFault, firstMissing, laterMissing, noRegister}
+use Rattle.account.specs.Names.{Codes, Instruction, Decoded, Executed, Retired, inM, inW}
 use Rattle.machine.specs.Types.{isBad}
-use Rattle.machine.specs.Memory.{inside, store}
-use Rattle.machine.specs.Table.{Row, Sets, noCodes, byOp, bySum, rowOf, table, is, cmov, jump, ret}
+use Rattle.machine.specs.Memory.{Memory, inside, store}
+use Rattle.machine.specs.Table.{Row, Sets, noCodes, byOp, bySum, rowOf, table, is, cmov, jump, ret, Which, none, rA, rB, rsp}
 use Rattle.machine.specs.Fetch.{fetch, parsed, checked, notInTable, stopping}
-use Rattle.machine.specs.Stages.{register, decode, execute, access, outcome, condition, loads, stores, loading, storing, accessAddress}
+use Rattle.machine.specs.Stages.{register, decode, execute, access, outcome, condition, loads, stores, loading, storing, accessAddress, patches}
 use Rattle.machine.specs.Stages.{accessStatus, codesBy, newCodes, newMemory, newRegisters, loadedTarget, sourceA, sourceB, turned, straight, nextAddress}
 use Rattle.machine.specs.Plain.{Plain, isStopped, fetched, decoded, executed, accessed, performed, stoppedBy, step, steps}
 use Rattle.clocked.specs.Prediction.{Core, guess, predictedNext, mispredicted, meets, awaitedA, loadUse}
@@ -31,6 +32,10 @@ bit false = 0
 pub or-true : (b : Bool) → b || true ≡ true
 or-true true = refl
 or-true false = refl
+
+pub falsely : (b : Bool) → (b ≡ true → ⊥) → b ≡ false
+falsely true k = absurd (k refl)
+falsely false k = refl
 
 -- FETCH
 -- the fetched instruction carries its address, and one with a bad status is a nop
@@ -128,20 +133,55 @@ quiet-codes s h = go (setting (rowOf (fetched s .code) .sets)) refl
         let k : isBad (fetched s .status) ≡ true = cc (in-executed s, n .0, n .1) in
         cc (nop-sets (fetched s) (fetched-as s .nop k))
 
--- JUMPS AND RETURNS load no register, and neither is the other
+-- STORES load no register, by one test computed over the table
+unfoldable isNone : Which → Bool
+isNone none = true
+isNone rA = false
+isNone rB = false
+isNone rsp = false
+
+none-15 : (w : Which) (i : Instruction) → T (isNone w) → register w i ≡ 15
+unfolding isNone register
+none-15 none i t = refl
+none-15 rA i t = absurd t
+none-15 rB i t = absurd t
+none-15 rsp i t = absurd t
+
+store-loads : (i : Instruction) → stores i ≡ true → loadedTarget i ≡ 15
+unfolding stores loadedTarget table storing isNone
+store-loads i h =
+    none-15 (rowOf (i .code) .loaded) i
+    (go (stores i) (isNone (rowOf (i .code) .loaded)) h (every-row (λ row. not (storing (row .accesses)) || isNone (row .loaded)) tt tt (i .code)))
+  where
+    go : (a b : Bool) → a ≡ true → T (not a || b) → T b
+    go true b h t = t
+    go false b h t = absurd (true≢false (sym h))
+
+-- JUMPS, RETURNS AND STORES load no register, and none is another
 data Kind (i : Instruction) : Type 0 where
-  a-jump : is jump i ≡ true → is ret i ≡ false → loadedTarget i ≡ 15 → Kind i
-  a-return : is jump i ≡ false → is ret i ≡ true → loadedTarget i ≡ 15 → Kind i
-  another : is jump i ≡ false → is ret i ≡ false → Kind i
+  a-jump : is jump i ≡ true → is ret i ≡ false → stores i ≡ false → loadedTarget i ≡ 15 → Kind i
+  a-return : is jump i ≡ false → is ret i ≡ true → stores i ≡ false → loadedTarget i ≡ 15 → Kind i
+  a-store : is jump i ≡ false → is ret i ≡ false → stores i ≡ true → loadedTarget i ≡ 15 → Kind i
+  another : is jump i ≡ false → is ret i ≡ false → stores i ≡ false → Kind i
 
 kind : (i : Instruction) → Kind i
-unfolding is loadedTarget register rowOf table
-kind i = go (is jump i) (is ret i) refl refl
+unfolding is stores storing loadedTarget register rowOf table
+kind i = go (is jump i) (is ret i) (stores i) refl refl refl
   where
-    go : (a b : Bool) → is jump i ≡ a → is ret i ≡ b → Kind i
-    go true b p q = let k = eqb-true (i .code) 7 p in a-jump p (rw k) (rw k)
-    go false true p q = let k = eqb-true (i .code) 9 q in a-return p q (rw k)
-    go false false p q = another p q
+    go : (a b c : Bool) → is jump i ≡ a → is ret i ≡ b → stores i ≡ c → Kind i
+    go true b c p q s = let k = eqb-true (i .code) 7 p in a-jump p (rw k) (rw k) (rw k)
+    go false true c p q s = let k = eqb-true (i .code) 9 q in a-return p q (rw k) (rw k)
+    go false false true p q s = a-store p q s (store-loads i s)
+    go false false false p q s = another p q s
+
+ret-stores : (i : Instruction) → is ret i ≡ true → stores i ≡ false
+ret-stores i h = go (kind i)
+  where
+    go : Kind i → stores i ≡ false
+    go (a-jump a b c d) = c
+    go (a-return a b c d) = c
+    go (a-store a b c d) = absurd (true≢false (sym h ∙ b))
+    go (another a b c) = c
 
 loadUse-none : (g : Core) (i j : Instruction) → loadedTarget i ≡ 15 → loadUse g i j ≡ false
 unfolding loadUse
@@ -161,6 +201,31 @@ beq-same false false h = refl
 -- the instruction performed at s is a jump that is guessed wrongly
 unfoldable pub wrongAt : Core → Plain → Bool
 wrongAt g s = mispredicted g (executed s .instruction) (executed s .holds)
+
+-- ... is a store that succeeds and writes into the window
+unfoldable pub patchesAt : Plain → Bool
+patchesAt s = accessed s .patched
+
+pub patches-stores : (x : Executed) (m : Memory) → patches x m ≡ true → stores (x .instruction) ≡ true
+unfolding patches
+patches-stores x m h = go (stores (x .instruction)) refl
+  where
+    go : (b : Bool) → stores (x .instruction) ≡ b → stores (x .instruction) ≡ true
+    go true e = e
+    go false e = cc
+
+pub stores-at : (s : Plain) → patchesAt s ≡ true → stores (fetched s) ≡ true
+unfolding patchesAt accessed access
+stores-at s h = sym (ap stores (in-executed s)) ∙ patches-stores (executed s) (s .memory) h
+
+-- a store inside memory succeeds
+pub store-succeeds : (s : Plain) → stores (fetched s) ≡ true → inside (s .memory) (accessAddress (executed s)) ≡ true → isBad (accessed s .status) ≡ false
+unfolding accessed access accessStatus
+store-succeeds s w i = go (isBad (fetched s .status)) refl
+  where
+    go : (b : Bool) → isBad (fetched s .status) ≡ b → isBad (accessed s .status) ≡ false
+    go true e = absurd (true≢false (sym w ∙ nop-stores (fetched s) (fetched-as s .nop e)))
+    go false e = cc (in-executed s, or-true (loads (fetched s)))
 
 -- THE PLAIN STEP, where it is not stopped
 module _ (s : Plain) (r : isStopped s ≡ false) where
@@ -234,6 +299,15 @@ module _ (s : Plain) (r : isStopped s ≡ false) where
     pub address-returned : is ret (fetched s) ≡ true → step s .machine .address ≡ accessed s .word
     address-returned t = cc address-next
 
+    pub address-patched : patchesAt s ≡ true → step s .machine .address ≡ straight (executed s .instruction)
+    address-patched m = go (kind (fetched s))
+      where
+        go : Kind (fetched s) → step s .machine .address ≡ straight (executed s .instruction)
+        go (a-jump a b c d) = absurd (true≢false (sym (stores-at s m) ∙ c))
+        go (a-return a b c d) = absurd (true≢false (sym (stores-at s m) ∙ c))
+        go (a-store a b c d) = cc address-next
+        go (another a b c) = absurd (true≢false (sym (stores-at s m) ∙ c))
+
     module _ (g : Core) where
       pub address-predicted : wrongAt g s ≡ false → is ret (fetched s) ≡ false → step s .machine .address ≡ predictedNext g (fetched s)
       unfolding wrongAt mispredicted predictedNext
@@ -250,9 +324,10 @@ module _ (s : Plain) (r : isStopped s ≡ false) where
       address-mended m = go (kind (fetched s))
         where
           go : Kind (fetched s) → step s .machine .address ≡ turned (executed s .instruction) (executed s .holds)
-          go (a-jump a b d) = cc address-next
-          go (a-return a b d) = cc (in-executed s)
-          go (another a b) = cc (in-executed s)
+          go (a-jump a b c d) = cc address-next
+          go (a-return a b c d) = cc (in-executed s)
+          go (a-store a b c d) = cc (in-executed s)
+          go (another a b c) = cc (in-executed s)
 
 pub stopped-before : (s : Plain) → isStopped (step s) ≡ false → isStopped s ≡ false
 unfolding step
@@ -285,40 +360,49 @@ unfolding pastBoth pastResult accessed access executed execute
 past-unloaded s q v h = cc
 
 -- CHARGES
--- behind an instruction as it retired: a jump guessed wrongly is charged 2, for it has a condition; a return 3; behind any other one waits for a load
+-- behind an instruction as it retired: a jump guessed wrongly is charged 2, for it has a condition; a return 3, and so is a store
+-- into the window; behind any other one waits for a load
 module _ (g : Core) (k : Retired) where
-  pub wrong-stays : mispredicted g (k .instruction) (k .holds) ≡ true → is ret (k .instruction) ≡ false
+  pub wrong-stays : mispredicted g (k .instruction) (k .holds) ≡ true → (is ret (k .instruction) ≡ false) × (stores (k .instruction) ≡ false)
   unfolding mispredicted
   wrong-stays m = go (kind (k .instruction))
     where
-      go : Kind (k .instruction) → is ret (k .instruction) ≡ false
-      go (a-jump a b d) = b
-      go (a-return a b d) = cc
-      go (another a b) = b
+      go : Kind (k .instruction) → (is ret (k .instruction) ≡ false) × (stores (k .instruction) ≡ false)
+      go (a-jump a b c d) = (b, c)
+      go (a-return a b c d) = (cc, cc)
+      go (a-store a b c d) = (cc, cc)
+      go (another a b c) = (b, c)
 
   module _ (j : Instruction) where
-    pub behind-wrong : mispredicted g (k .instruction) (k .holds) ≡ true → eqb (k .instruction .function) 0 ≡ false → amount (reasonBehind g k j) ≡ 2
+    pub behind-wrong : k .patched ≡ false → mispredicted g (k .instruction) (k .holds) ≡ true → eqb (k .instruction .function) 0 ≡ false
+        → amount (reasonBehind g k j) ≡ 2
     unfolding mispredicted reasonBehind amount
-    behind-wrong m f = go (kind (k .instruction))
+    behind-wrong z m f = go (kind (k .instruction))
       where
         go : Kind (k .instruction) → amount (reasonBehind g k j) ≡ 2
-        go (a-jump a b d) = cc (loadUse-none g (k .instruction) j d)
-        go (a-return a b d) = cc
-        go (another a b) = cc
+        go (a-jump a b c d) = cc (loadUse-none g (k .instruction) j d)
+        go (a-return a b c d) = cc
+        go (a-store a b c d) = cc
+        go (another a b c) = cc
 
-    pub behind-return : is ret (k .instruction) ≡ true → amount (reasonBehind g k j) ≡ 3
+    pub behind-return : k .patched ≡ false → is ret (k .instruction) ≡ true → amount (reasonBehind g k j) ≡ 3
     unfolding mispredicted reasonBehind amount
-    behind-return m = go (kind (k .instruction))
+    behind-return z m = go (kind (k .instruction))
       where
         go : Kind (k .instruction) → amount (reasonBehind g k j) ≡ 3
-        go (a-jump a b d) = cc
-        go (a-return a b d) = cc (loadUse-none g (k .instruction) j d)
-        go (another a b) = cc
+        go (a-jump a b c d) = cc
+        go (a-return a b c d) = cc (loadUse-none g (k .instruction) j d)
+        go (a-store a b c d) = cc
+        go (another a b c) = cc
 
-    pub behind-other : mispredicted g (k .instruction) (k .holds) ≡ false → is ret (k .instruction) ≡ false
+    pub behind-patched : k .patched ≡ true → amount (reasonBehind g k j) ≡ 3
+    unfolding reasonBehind amount
+    behind-patched z = cc
+
+    pub behind-other : k .patched ≡ false → mispredicted g (k .instruction) (k .holds) ≡ false → is ret (k .instruction) ≡ false
         → amount (reasonBehind g k j) ≡ bit (loadUse g (k .instruction) j)
     unfolding reasonBehind amount bit
-    behind-other m t = go (loadUse g (k .instruction) j) refl
+    behind-other z m t = go (loadUse g (k .instruction) j) refl
       where
         go : (b : Bool) → loadUse g (k .instruction) j ≡ b → amount (reasonBehind g k j) ≡ bit (loadUse g (k .instruction) j)
         go true e = cc
@@ -362,19 +446,41 @@ module _ (g : Core) (s : Plain) (n : ℕ) where
   unfolding predecessor retiredOf
   ret-is = ap (is ret) (in-accessed (steps s n))
 
-  pub charge-wrong : wrongAt g (steps s n) ≡ true → (is ret (fetched (steps s n)) ≡ false) × (charge g s (suc (suc n)) ≡ 2)
+  patched-is : predecessor .patched ≡ patchesAt (steps s n)
+  unfolding predecessor retiredOf patchesAt
+  patched-is = refl
+
+  stores-is : stores (predecessor .instruction) ≡ stores (fetched (steps s n))
+  unfolding predecessor retiredOf
+  stores-is = ap stores (in-accessed (steps s n))
+
+  -- what stores nothing does not patch
+  unstored : stores (fetched (steps s n)) ≡ false → patchesAt (steps s n) ≡ false
+  unstored h = falsely (patchesAt (steps s n)) (λ z. true≢false (sym (stores-at (steps s n) z) ∙ h))
+
+  pub charge-wrong : wrongAt g (steps s n) ≡ true → (is ret (fetched (steps s n)) ≡ false) × (patchesAt (steps s n) ≡ false) × (charge g s (suc (suc n)) ≡ 2)
   unfolding predecessor retiredOf wrongAt accessed access executed execute
-  charge-wrong m = (
-    sym ret-is ∙ wrong-stays g predecessor m,
-    charged ∙ behind-wrong g predecessor (fetched (steps s (suc n))) m (conditional g (decoded (steps s n)) (steps s n .machine .codes) m),
-  )
+  charge-wrong m =
+      let k = wrong-stays g predecessor m in
+      let z = unstored (sym stores-is ∙ k .1) in (
+        sym ret-is ∙ k .0,
+        z,
+        charged ∙ behind-wrong g predecessor (fetched (steps s (suc n))) (patched-is ∙ z) m (conditional g (decoded (steps s n)) (steps s n .machine .codes) m),
+      )
 
   pub charge-returned : is ret (fetched (steps s n)) ≡ true → charge g s (suc (suc n)) ≡ 3
-  charge-returned m = charged ∙ behind-return g predecessor (fetched (steps s (suc n))) (ret-is ∙ m)
+  charge-returned m =
+      charged ∙ behind-return g predecessor (fetched (steps s (suc n))) (patched-is ∙ unstored (ret-stores (fetched (steps s n)) m)) (ret-is ∙ m)
 
-  pub charge-straight : wrongAt g (steps s n) ≡ false → is ret (fetched (steps s n)) ≡ false
+  pub charge-patched : patchesAt (steps s n) ≡ true → (is ret (fetched (steps s n)) ≡ false) × (charge g s (suc (suc n)) ≡ 3)
+  charge-patched m = (
+    falsely (is ret (fetched (steps s n))) (λ z. true≢false (sym m ∙ unstored (ret-stores (fetched (steps s n)) z))),
+    charged ∙ behind-patched g predecessor (fetched (steps s (suc n))) (patched-is ∙ m),
+  )
+
+  pub charge-straight : wrongAt g (steps s n) ≡ false → is ret (fetched (steps s n)) ≡ false → patchesAt (steps s n) ≡ false
       → charge g s (suc (suc n)) ≡ bit (loadUse g (fetched (steps s n)) (fetched (steps s (suc n))))
   unfolding predecessor retiredOf
-  charge-straight m t =
-      charged ∙ (behind-other g predecessor (fetched (steps s (suc n))) (wrong-is ∙ m) (ret-is ∙ t)
+  charge-straight m t z =
+      charged ∙ (behind-other g predecessor (fetched (steps s (suc n))) (patched-is ∙ z) (wrong-is ∙ m) (ret-is ∙ t)
       ∙ ap (λ (i : Instruction). bit (loadUse g i (fetched (steps s (suc n))))) (in-accessed (steps s n)))

@@ -9,10 +9,10 @@ use Rattle.machine.specs.Plain.{Plain, isStopped, steps}
 use Rattle.clocked.specs.Prediction.{Core}
 use Rattle.clocked.specs.Charges.{due}
 use Rattle.clocked.specs.Pipeline.{Piped, clocks}
-use Rattle.clocked.specs.Premise.{Untouched}
+use Rattle.clocked.specs.Premise.{Premise}
 use Rattle.account.specs.Statement.{Start, plainFrom, pipedFrom, DueBy}
 use Rattle.account.specs.Relation.{Beyond, AtE, BehindM, AtM, AtW, beyondE, stopE, emptyE, fullE}
-use Rattle.account.specs.Relation.{goesM, retM, beyondM, stopM, emptyM, fullM, beyondW, emptyW, fullW}
+use Rattle.account.specs.Relation.{goesM, patchM, retM, beyondM, stopM, emptyM, fullM, beyondW, emptyW, fullW}
 use Rattle.account.specs.Timing.{Older, older-later, older-next, exactly, exactly-stopped, due-grows, late-E, late-M}
 use Rattle.account.specs.Theorem.{After, Now, going, ended, after-clocks}
 
@@ -63,7 +63,8 @@ module _ (g : Core) (s : Plain) where
         next = older-next g s o (l .runs) (c + 2) (omega arith) t
 
         go : BehindM g s (suc k) p c n → Landed g s p c n (suc n)
-        go (goesM y e) = land-E n now km (suc n) next e
+        go (goesM y z e) = land-E n now km (suc n) next e
+        go (patchM z kc) = record { stores = now; memory = km; sets = exactly g s next (λ _. omega (arith, due-grows g s (suc n))); codes = kc }
         go (retM y kc he hd) = record { stores = now; memory = km; sets = exactly g s next (λ _. omega (arith, due-grows g s (suc n))); codes = kc }
 
     land-W : (n : ℕ) → Older g s c n → AtW g s (suc k) p c n → (a b : ℕ) × Landed g s p c a b
@@ -79,14 +80,14 @@ module _ (g : Core) (s : Plain) where
         go (ended h _ _ kc km _) = (n, n, land-stop n (older-later g s (i .older) (c + 1) (omega arith)) h kc km)
 
 -- where cycle c + 2 comes before the one in which the last instruction within the premise is due
-pub in-mid-run : (g : Core) (t : Start) → length (t .registers) ≡ 15 → (k : ℕ) → Untouched (plainFrom t) (suc k)
+pub in-mid-run : (g : Core) (t : Start) → length (t .registers) ≡ 15 → (k : ℕ) → Premise (plainFrom t) (suc k)
     → (c : ℕ) → c + 2 < due g (plainFrom t) (suc k) → (a b : ℕ) × Landed g (plainFrom t) (clocks g (pipedFrom t) c) c a b
 in-mid-run g t l k u c q =
     let x = after-clocks g t k l u c (omega arith) in
     landed g (plainFrom t) k (clocks g (pipedFrom t) c) c q (x .0) (x .1)
 
 -- and where the premise holds throughout, after every clock
-pub always-in-mid-run : (g : Core) (t : Start) → length (t .registers) ≡ 15 → ((K : ℕ) → Untouched (plainFrom t) K)
+pub always-in-mid-run : (g : Core) (t : Start) → length (t .registers) ≡ 15 → ((K : ℕ) → Premise (plainFrom t) K)
     → (c : ℕ) → (a b : ℕ) × Landed g (plainFrom t) (clocks g (pipedFrom t) c) c a b
 unfolding due
 always-in-mid-run g t l u c = in-mid-run g t l c (u (suc c)) c (omega arith)

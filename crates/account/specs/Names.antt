@@ -4,6 +4,8 @@ pub use Rattle.machine.specs.declared.Status.the-variants.{Aok as aok, Hlt as h
 pub use Rattle.machine.specs.declared.Fault.{Fault}
 pub use Rattle.machine.specs.declared.Fault.the-variants.{NoFault as noFault, FirstMissing as firstMissing, LaterMissing as laterMissing, NoRegister as noRegister}
 pub use Rattle.machine.specs.declared.Codes.{Codes}
+pub use Rattle.machine.specs.declared.Window.{Window}
+pub use Rattle.machine.specs.declared.Window.the-variants.{NoWindow as noWindow, Within as within}
 pub use Rattle.machine.specs.declared.Machine.{Machine}
 pub use Rattle.machine.specs.declared.Instruction.{Instruction}
 pub use Rattle.machine.specs.declared.Decoded.{Decoded}
@@ -22,6 +24,6 @@ pub use Rattle.clocked.specs.declared.StageW.the-variants.{BubbleW as bubbleW, 
 pub use Rattle.clocked.specs.declared.Kept.{Kept}
 pub use Rattle.clocked.specs.declared.Kept.the-variants.{NoneKept as noneKept, LastKept as lastKept}
 pub use Rattle.clocked.specs.declared.Reason.{Reason}
-pub use Rattle.clocked.specs.declared.Reason.the-variants.{Free as free, Waited as waited, WronglyGuessed as wronglyGuessed, Returned as returned}
+pub use Rattle.clocked.specs.declared.Reason.the-variants.{Free as free, Waited as waited, WronglyGuessed as wronglyGuessed, Returned as returned, Patched as patched}
 pub use Rattle.clocked.specs.declared.Kinds.{Kinds}
 pub use Rattle.clocked.specs.declared.Pipeline.{Pipeline}

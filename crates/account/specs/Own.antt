@@ -8,10 +8,10 @@ use Rattle.account.specs.Names.{Instruction, Decoded, Executed, Accessed
 use Rattle.account.specs.Names.{StageD, bubbleD, inD, bubbleE, inE, bubbleM, inM, bubbleW, inW}
 use Rattle.machine.specs.Types.{isBad}
 use Rattle.machine.specs.Table.{is, ret}
-use Rattle.machine.specs.Stages.{decode, execute, access, sourceB}
+use Rattle.machine.specs.Stages.{decode, execute, access, sourceB, patches}
 use Rattle.clocked.specs.Prediction.{Core, mispredicted}
 use Rattle.clocked.specs.Charges.{noKinds, amount, reasonBehind, reasonFrom, retiredOf}
-use Rattle.clocked.specs.Pipeline.{Piped, pipeStart, afterM, handedA, executing, waits, mispredicts, fails, retInE, retInM, fetchedNow}
+use Rattle.clocked.specs.Pipeline.{Piped, pipeStart, afterM, handedA, executing, waits, mispredicts, fails, cancels, retInE, retInM, fetchedNow}
 use Rattle.clocked.specs.Pipeline.{source, retiredAfter, kindsAfter, keptAfter, advanced, stoppedIn, clock, clocks}
 use Rattle.account.specs.Statement.{Start, pipedFrom}
 use Rattle.account.specs.Laws
@@ -22,9 +22,9 @@ use Rattle.account.specs.Timing.{total, total-counted}
 use Rattle.clock_laws.specs.Stops.{clock-still}
 use Rattle.account.specs.Retirement.{Books, clock-bubble, clock-retires, clock-stops, books-retires, books-stops}
 
--- as an executed instruction will retire
+-- as an executed instruction will retire that does not write into the window
 abbrev retiring : Executed → Retired
-retiring x = record { instruction = x .instruction; holds = x .holds }
+retiring x = record { instruction = x .instruction; holds = x .holds; patched = false }
 
 -- the cycle in which j is due behind the instruction k, which is due in cycle b
 behind : Core → Kept → ℕ → Instruction → ℕ
@@ -67,6 +67,7 @@ module _ (g : Core) (p : Piped) (c : ℕ) where
 module _ (g : Core) (p : Piped) (c : ℕ) where
   -- what is known of E and M when an instruction may stand in D
   record Decoding : Type 0 where
+    whole : cancels p ≡ false
     right : mispredicts g p ≡ false
     staysE : retInE (p .pipeline .e) ≡ false
     staysM : retInM (p .pipeline .m) ≡ false
@@ -83,7 +84,7 @@ module _ (g : Core) (p : Piped) (c : ℕ) where
 
     e′ : executing g (advanced g p) ≡ inE x′
     unfolding x′ decode
-    e′ = Signals.executing-of g (advanced g p) (decode i (source g p)) (Signals.e-of g p i w (v .right) h)
+    e′ = Signals.executing-of g (advanced g p) (decode i (source g p)) (Signals.e-of g p i (v .whole) w (v .right) h)
 
     fetch-behind : mispredicts g (advanced g p) ≡ false → is ret i ≡ false
         → OwnD g (advanced g p) (suc c) (lastKept (retiring (execute x′ (advanced g p .pipeline .codes)))) b
@@ -92,14 +93,14 @@ module _ (g : Core) (p : Piped) (c : ℕ) where
         fullD (fetchedNow g p) d′
         (omega (
           arith,
-          Laws.behind-other g (retiring (execute x′ (advanced g p .pipeline .codes))) (fetchedNow g p)
+          Laws.behind-other g (retiring (execute x′ (advanced g p .pipeline .codes))) (fetchedNow g p) refl
               (sym (Signals.mispredicts-of g (advanced g p) x′ e′) ∙ m) r,
-          ap bit (Signals.waits-next g p (fetchedNow g p) w (v .right) d′),
+          ap bit (Signals.waits-next g p (fetchedNow g p) (v .whole) w (v .right) d′),
           ap (λ (d : StageD). bit (waitsFor g d (fetchedNow g p))) h,
         ))
       where
         d′ : advanced g p .pipeline .d ≡ inD (fetchedNow g p)
-        d′ = Signals.d-next g p (fetchedNow g p) w (v .right) (Signals.returns-none g p (Signals.retD-in g p i h ∙ r) (v .staysE) (v .staysM)) refl
+        d′ = Signals.d-next g p (fetchedNow g p) (v .whole) w (v .right) (Signals.returns-none g p (Signals.retD-in g p i h ∙ r) (v .staysE) (v .staysM)) refl
 
     behind-E : BehindE g (advanced g p) (suc c) x′ b
     unfolding x′ decode
@@ -121,22 +122,22 @@ module _ (g : Core) (p : Piped) (c : ℕ) where
       e = Signals.e-bubble g p h
 
       d : advanced g p .pipeline .d ≡ inD (fetchedNow g p)
-      d = Signals.d-next g p (fetchedNow g p) w (v .right) (Signals.returns-none g p (Signals.retD-bubble g p h) (v .staysE) (v .staysM)) refl
+      d = Signals.d-next g p (fetchedNow g p) (v .whole) w (v .right) (Signals.returns-none g p (Signals.retD-bubble g p h) (v .staysE) (v .staysM)) refl
   into-E v k b (fullD i h t) = go (waits g p) refl
     where
       go : (y : Bool) → waits g p ≡ y → OwnE g (advanced g p) (suc c) k b
       go true w =
           let e = Signals.e-waiting g p w in
-          emptyE e (fullD i (Signals.d-held g p (v .right) w ∙ h) (omega (arith, ap bit w, ap bit (Signals.waits-bubbleE g (advanced g p) e))))
+          emptyE e (fullD i (Signals.d-held g p (v .whole) (v .right) w ∙ h) (omega (arith, ap bit w, ap bit (Signals.waits-bubbleE g (advanced g p) e))))
       go false w =
           let z : behind g k b i ≡ c + 4 = omega (arith, ap bit w) in
           fullE (x′ v i h w (behind g k b i) z) (e′ v i h w (behind g k b i) z) (omega arith) (behind-E v i h w (behind g k b i) z)
 
-  into-M : retInM (p .pipeline .m) ≡ false → fails p ≡ false → (k : Kept) (b : ℕ) → OwnE g p c k b → OwnM g (advanced g p) (suc c) k b
+  into-M : cancels p ≡ false → retInM (p .pipeline .m) ≡ false → fails p ≡ false → (k : Kept) (b : ℕ) → OwnE g p c k b → OwnM g (advanced g p) (suc c) k b
   unfolding execute
-  into-M r f k b (emptyE h d) =
-      emptyM (Signals.m-bubble g p h) (into-E (record { right = Signals.mispredicts-bubble g p h; staysE = Signals.retE-bubble g p h; staysM = r }) k b d)
-  into-M r f k b (fullE x h t a) = fullM (execute x (p .pipeline .codes)) (Signals.m-of g p x h f) (omega arith) (λ _. moved a)
+  into-M z r f k b (emptyE h d) =
+      emptyM (Signals.m-bubble g p h) (into-E (record { whole = z; right = Signals.mispredicts-bubble g p h; staysE = Signals.retE-bubble g p h; staysM = r }) k b d)
+  into-M z r f k b (fullE x h t a) = fullM (execute x (p .pipeline .codes)) (Signals.m-of g p x h z f) (omega arith) (λ _. moved a)
     where
       b′ : ℕ
       b′ = behind g k b (x .instruction)
@@ -145,33 +146,46 @@ module _ (g : Core) (p : Piped) (c : ℕ) where
       k′ = retiring (execute x (p .pipeline .codes))
 
       moved : BehindE g p c x b′ → BehindM g (advanced g p) (suc c) (execute x (p .pipeline .codes)) b′
-      moved (goesE m q d) = goesM q (into-E (record { right = m; staysE = Signals.retE-in g p x h ∙ q; staysM = r }) (lastKept k′) b′ d)
-      moved (wrongE m) = goesM (Laws.wrong-stays g k′ wrong) (emptyE (Signals.e-mispredicted g p m) (emptyD (Signals.d-mispredicted g p m) late))
+      moved (goesE m q d) = goesM q (into-E (record { whole = z; right = m; staysE = Signals.retE-in g p x h ∙ q; staysM = r }) (lastKept k′) b′ d)
+      moved (wrongE m) = goesM (Laws.wrong-stays g k′ wrong .0) (emptyE (Signals.e-mispredicted g p m) (emptyD (Signals.d-mispredicted g p m) late))
         where
           wrong : mispredicted g (x .instruction) (execute x (p .pipeline .codes) .holds) ≡ true
           wrong = sym (Signals.mispredicts-of g p x h) ∙ m
 
           late : (j : Instruction) → behind g (lastKept k′) b′ j ≡ suc c + 5
-          late j = behind-by g k′ b′ j 2 (Laws.behind-wrong g k′ j wrong (Laws.conditional g x (p .pipeline .codes) wrong)) ∙ omega arith
+          late j = behind-by g k′ b′ j 2 (Laws.behind-wrong g k′ j refl wrong (Laws.conditional g x (p .pipeline .codes) wrong)) ∙ omega arith
       moved (retE q d) =
           retM q (Signals.e-bubble g p d) (Signals.d-returning g p (Signals.waits-bubbleD g p d) (Signals.returns-E g p (Signals.retE-in g p x h ∙ q)))
 
   into-W : (k : Kept) (b : ℕ) → OwnM g p c k b → OwnW g (advanced g p) (suc c) k b
   unfolding access retiredOf
-  into-W k b (emptyM h e) = emptyW (Signals.w-bubble g p h) (into-M (Signals.retM-bubble g p h) (Signals.fails-bubble g p h) k b e)
+  into-W k b (emptyM h e) =
+      emptyW (Signals.w-bubble g p h) (into-M (Signals.cancels-bubble g p h) (Signals.retM-bubble g p h) (Signals.fails-bubble g p h) k b e)
   into-W k b (fullM x h t a) =
-      fullW (access x (p .memory)) (Signals.w-of g p x h) (omega arith) (λ s. moved (Signals.fails-of g p x h ∙ s) (a (Signals.fails-of g p x h ∙ s)))
+      fullW (access x (p .memory)) (Signals.w-of g p x h) (omega arith) (λ s. split (Signals.fails-of g p x h ∙ s) (patches x (p .memory)) refl)
     where
       b′ : ℕ
       b′ = behind g k b (x .instruction)
 
-      moved : fails p ≡ false → BehindM g p c x b′ → OwnM g (advanced g p) (suc c) (lastKept (retiring x)) b′
-      moved f (goesM q e) = into-M (Signals.retM-in g p x h ∙ q) f (lastKept (retiring x)) b′ e
-      moved f (retM q e d) =
+      moved : cancels p ≡ false → fails p ≡ false → BehindM g p c x b′ → OwnM g (advanced g p) (suc c) (lastKept (retiring x)) b′
+      moved z f (goesM q e) = into-M z (Signals.retM-in g p x h ∙ q) f (lastKept (retiring x)) b′ e
+      moved z f (retM q e d) =
           emptyM (Signals.m-bubble g p e)
           (emptyE (Signals.e-bubble g p d)
           (emptyD (Signals.d-returning g p (Signals.waits-bubbleD g p d) (Signals.returns-M g p (Signals.retM-in g p x h ∙ q)))
-          (λ j. behind-by g (retiring x) b′ j 3 (Laws.behind-return g (retiring x) j q) ∙ omega arith)))
+          (λ j. behind-by g (retiring x) b′ j 3 (Laws.behind-return g (retiring x) j refl q) ∙ omega arith)))
+
+      -- a store into the window leaves nothing behind it
+      split : fails p ≡ false → (y : Bool) → patches x (p .memory) ≡ y → OwnM g (advanced g p) (suc c) (lastKept (retiredOf (access x (p .memory)))) b′
+      split f true y =
+          let z : cancels p ≡ true = Signals.cancels-of g p x h ∙ y in
+          emptyM (Signals.m-cancelled g p z)
+          (emptyE (Signals.e-cancelled g p z)
+          (emptyD (Signals.d-cancelled g p z)
+          (λ j. behind-by g (retiredOf (access x (p .memory))) b′ j 3 (Laws.behind-patched g (retiredOf (access x (p .memory))) j y) ∙ omega arith)))
+      split f false y =
+          subst (λ (r : Bool). OwnM g (advanced g p) (suc c) (lastKept (record { instruction = x .instruction; holds = x .holds; patched = r })) b′) (sym y)
+          (moved (Signals.cancels-of g p x h ∙ y) f (a f))
 
 -- THE RECORD
 -- the cycle that its own counts say: "k + 4 plus the charges"

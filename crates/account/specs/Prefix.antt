@@ -9,7 +9,7 @@ use Rattle.machine.specs.Plain.{isStopped, steps}
 use Rattle.clocked.specs.Prediction.{Core}
 use Rattle.clocked.specs.Charges.{due, dueCycles}
 use Rattle.clocked.specs.Pipeline.{Piped, advanced, stoppedIn, clock, clocks}
-use Rattle.clocked.specs.Premise.{Untouched}
+use Rattle.clocked.specs.Premise.{Premise}
 use Rattle.account.specs.Statement.{Start, plainFrom, pipedFrom}
 use Rattle.account.specs.Retirement.{clock-any}
 use Rattle.account.specs.Uses.{on-time}
@@ -51,7 +51,7 @@ longer g p c (suc d) =
     rw e (record { addresses = begins-further (a .addresses) (b .addresses); cycles = begins-further (a .cycles) (b .cycles) })
 
 -- instruction k + 1 is performed, within the premise, and due by clock c: whatever c is, and whatever comes after
-pub logs-begin : (g : Core) (t : Start) → length (t .registers) ≡ 15 → (k : ℕ) → Untouched (plainFrom t) (suc k) → isStopped (steps (plainFrom t) k) ≡ false
+pub logs-begin : (g : Core) (t : Start) → length (t .registers) ≡ 15 → (k : ℕ) → Premise (plainFrom t) (suc k) → isStopped (steps (plainFrom t) k) ≡ false
     → (c : ℕ) → due g (plainFrom t) (suc k) ≤ c
     → Begins (clocks g (pipedFrom t) c .addressLog) (steps (plainFrom t) (suc k) .log) × Begins (clocks g (pipedFrom t) c .cycleLog)
     (dueCycles g (plainFrom t) (suc k))

@@ -11,8 +11,12 @@ use Rattle.machine.specs.Plain.{Plain, isStopped, fetched, decoded, executed, a
 use Rattle.clocked.specs.Prediction.{Core}
 use Rattle.clocked.specs.Charges.{due}
 use Rattle.clocked.specs.Pipeline.{Piped, executing, waits, fetchAddress}
-use Rattle.account.specs.Laws.{bit, wrongAt}
+use Rattle.account.specs.Laws.{bit, wrongAt, patchesAt}
 use Rattle.account.specs.Signals.{waitsFor}
+
+-- none of the instructions j + 1 to n writes into the window
+abbrev pub Unpatched : Plain → ℕ → ℕ → Type 0
+Unpatched s j n = (i : ℕ) → j ≤ i → i < n → patchesAt (steps s i) ≡ false
 
 module _ (g : Core) (s : Plain) (K : ℕ) where
   -- instruction n + 1 is performed, and within the premise
@@ -25,10 +29,11 @@ module _ (g : Core) (s : Plain) (K : ℕ) where
     pub runs : isStopped (steps s n) ≡ false
     pub above : K ≤ n
 
-  -- the instruction after it stands at the predicted address
+  -- the instruction after it stands at the predicted address, and its bytes are not written by it
   pub record Guessed (n : ℕ) : Type 0 where
     pub right : wrongAt g (steps s n) ≡ false
     pub stays : is ret (fetched (steps s n)) ≡ false
+    pub keeps : patchesAt (steps s n) ≡ false
 
   -- n instructions are fetched, and the next fetch is right
   pub data AtF (p : Piped) (c n : ℕ) : Type 0 where
@@ -38,11 +43,13 @@ module _ (g : Core) (s : Plain) (K : ℕ) where
         → (p .pipeline .d ≡ bubbleD) ⊎ (p .pipeline .predicted ≡ steps s n .machine .address)
         → due g s (suc n) ≡ c + 5 + bit (waits g p) + bit (waitsFor g (p .pipeline .d) (fetched (steps s n))) → AtF p c n
 
-  -- what is younger than the instruction in D: behind a jump that will prove wrongly guessed, and behind a return, anything
+  -- what is younger than the instruction in D: behind a jump that will prove wrongly guessed, behind a return, and behind
+  -- a store into the window, anything
   pub data BehindD (p : Piped) (c n : ℕ) : Type 0 where
     goesD : Guessed n → AtF p c (suc n) → BehindD p c n
     wrongD : wrongAt g (steps s n) ≡ true → BehindD p c n
     retD : is ret (fetched (steps s n)) ≡ true → BehindD p c n
+    patchD : patchesAt (steps s n) ≡ true → BehindD p c n
 
   pub data AtD (p : Piped) (c n : ℕ) : Type 0 where
     beyondD : Beyond n → AtD p c n
@@ -55,6 +62,7 @@ module _ (g : Core) (s : Plain) (K : ℕ) where
     goesE : Guessed n → AtD p c (suc n) → BehindE p c n
     wrongE : wrongAt g (steps s n) ≡ true → BehindE p c n
     retE : is ret (fetched (steps s n)) ≡ true → p .pipeline .d ≡ bubbleD → BehindE p c n
+    patchE : patchesAt (steps s n) ≡ true → BehindE p c n
 
   -- the codes are the plain engine's of the instruction that E has next
   pub data AtE (p : Piped) (c n : ℕ) : Type 0 where
@@ -64,9 +72,11 @@ module _ (g : Core) (s : Plain) (K : ℕ) where
     fullE : Known n → p .pipeline .codes ≡ steps s n .machine .codes → executing g p ≡ inE (decoded (steps s n)) → due g s (suc n) ≡ c + 3 → BehindE p c n
         → AtE p c n
 
-  -- ... than the one in M: a wrong guess is mended by now, and behind a return E and D are empty
+  -- ... than the one in M: a wrong guess is mended by now, behind a return E and D are empty, and behind a store
+  -- into the window, which is about to cancel it, E and D still hold anything
   pub data BehindM (p : Piped) (c n : ℕ) : Type 0 where
-    goesM : is ret (fetched (steps s n)) ≡ false → AtE p c (suc n) → BehindM p c n
+    goesM : is ret (fetched (steps s n)) ≡ false → patchesAt (steps s n) ≡ false → AtE p c (suc n) → BehindM p c n
+    patchM : patchesAt (steps s n) ≡ true → p .pipeline .codes ≡ steps s (suc n) .machine .codes → BehindM p c n
     retM : is ret (fetched (steps s n)) ≡ true → p .pipeline .codes ≡ steps s (suc n) .machine .codes → p .pipeline .e ≡ bubbleE → p .pipeline .d ≡ bubbleD
         → BehindM p c n
 

@@ -1,26 +1,29 @@
--- Within the premise a fetch sees the bytes that the plain engine will see, though up to three older stores are still to come.
+-- Within the premise a fetch sees the bytes that the plain engine will see, though up to three older stores are still to come. With a window
+-- there is no premise: a store into the window cancels what is behind it, and any other writes no byte of an instruction.
 use Prim.Native.Nat.{ℕ, zero, suc, _+_, _-_, _≤_, _<_, _/_, min}
-use mathlib.Core.Bool.{Bool, true, false, cond, _&&_}
-use mathlib.Core.Path.{_≡_, refl, ap, sym, _∙_}
+use mathlib.Core.Bool.{Bool, true, false, cond, _&&_, true≢false}
+use mathlib.Core.Path.{_≡_, refl, ap, sym, _∙_, subst}
 use native.Mathlib.Omega.{arith}
 use native.Mathlib.Decide.{decLt}
-use borrow.Author.Tests.{lt-ltb, le-leb}
+use borrow.Author.Tests.{lt-ltb, le-leb, ltb-true, ltb-false, leb-true}
 use lib.Dec.{ltb, leb}
 use lib.ListN.{length, getD, take, drop, length-take, length-drop}
 use lib.Seq.{ext-getD, getD-take, getD-drop}
-use Rattle.account.specs.Names.{Executed}
+use Rattle.account.specs.Names.{Window, noWindow, within, Executed}
 use Rattle.laws.specs.Memory.{size-stored, code-end-stored, byte-stored}
-use Rattle.machine.specs.Memory.{Memory, size, codeEnd, inside, store}
+use Rattle.laws.specs.Window.{steps-keep}
+use Rattle.machine.specs.Types.{isSet}
+use Rattle.machine.specs.Memory.{Memory, size, seenTo, codeEnd, inside, store}
 use Rattle.machine.specs.Table.{rowOf}
 use Rattle.machine.specs.Fetch.{fetch, parsed, ownBytes, sizeAt}
-use Rattle.machine.specs.Stages.{decode, execute, stores, accessAddress, storedWord, newMemory}
+use Rattle.machine.specs.Stages.{decode, execute, access, stores, accessAddress, storedWord, meetsWindow, patches, newMemory}
 use Rattle.published.specs.Lengths.{length-rule, parts}
 use Rattle.published.specs.Fetching.{code-end-within}
-use Rattle.machine.specs.Plain.{Plain, isStopped, fetched, decoded, executed, step, steps}
+use Rattle.machine.specs.Plain.{Plain, isStopped, fetched, decoded, executed, accessed, step, steps}
 use Rattle.clocked.specs.Prediction.{Core}
-use Rattle.clocked.specs.Premise.{Untouched, writesByte, hasByte}
-use Rattle.account.specs.Laws.{step-memory, stopped-before}
-use Rattle.account.specs.Relation.{Known}
+use Rattle.clocked.specs.Premise.{Premise, writesByte, hasByte}
+use Rattle.account.specs.Laws.{patchesAt, store-succeeds, in-executed, step-memory, stopped-before}
+use Rattle.account.specs.Relation.{Unpatched, Known}
 
 -- WHAT A STORE LEAVES
 pub size-newMemory : (x : Executed) (m : Memory) → size (newMemory x m) ≡ size m
@@ -125,17 +128,66 @@ runs-before s zero j n e h =
     rw q h
 runs-before s (suc d) j n e h = stopped-before (steps s j) (runs-before s d (suc j) n (omega arith) h)
 
-module _ (g : Core) (s : Plain) (K : ℕ) (u : Untouched s K) where
-  back : (d j n : ℕ) → d + j ≡ n → d ≤ 3 → Known g s K n → Same (steps s j .memory) (steps s n .memory) (steps s n .machine .address)
+-- WITH A WINDOW
+-- a byte that an instruction at a may have is one of the window's
+code-inside : (first end n a x : ℕ) → a ≤ x → x < seenTo (within first end) n a → (first ≤ x) × (x < end)
+unfolding seenTo
+code-inside first end n a x lo = go (ltb a first) refl
+  where
+    go : (b : Bool) → ltb a first ≡ b → x < min (cond b a end) n → (first ≤ x) × (x < end)
+    go true e h = absurd (omega arith)
+    go false e h = let q = ltb-false a first e in (omega arith, omega arith)
+
+-- a byte of the window that is written is written by a store that is seen to do so
+writes-patches : (s : Plain) (first end x : ℕ) → s .memory .window ≡ within first end → first ≤ x → x < end → writesByte s x ≡ true → patchesAt s ≡ true
+unfolding patchesAt writesByte patches meetsWindow accessed access
+writes-patches s first end x w lo hi h =
+    let a = accessAddress (executed s) in
+    let u = both (stores (fetched s)) (inside (s .memory) a && (leb a x && ltb x (a + 8))) h in
+    let v = both (inside (s .memory) a) (leb a x && ltb x (a + 8)) (u .1) in
+    let y = both (leb a x) (ltb x (a + 8)) (v .1) in
+    let b = leb-true a x (y .0) in
+    let c = ltb-true x (a + 8) (y .1) in
+    cc (
+      in-executed s,
+      u .0,
+      store-succeeds s (u .0) (v .0),
+      lt-ltb first end (omega arith),
+      lt-ltb a end (omega arith),
+      lt-ltb first (a + 8) (omega arith),
+    )
+
+module _ (g : Core) (s : Plain) (K : ℕ) (u : Premise s K) where
+  -- instruction j + 1 writes no byte of instruction n + 1, by the premise or because it would cancel it
+  apart : (j n : ℕ) → j < n → n ≤ j + 3 → Known g s K n → patchesAt (steps s j) ≡ false
+      → (x : ℕ) → writesByte (steps s j) x ≡ true → hasByte (steps s n) x ≡ true → ⊥
+  unfolding isSet hasByte codeEnd
+  apart j n lo hi l z x h k = go (s .memory .window) refl
+    where
+      a : ℕ
+      a = steps s n .machine .address
+
+      go : (w : Window) → s .memory .window ≡ w → ⊥
+      go noWindow e = u (ap isSet e) j n lo hi (l .below) (l .runs) x h k
+      go (within first end) e =
+          let p = both (leb a x) (ltb x (a + sizeAt (steps s n .memory) a) && ltb x (codeEnd (steps s n .memory) a)) k in
+          let q = both (ltb x (a + sizeAt (steps s n .memory) a)) (ltb x (codeEnd (steps s n .memory) a)) (p .1) in
+          let below : x < seenTo (within first end) (size (steps s n .memory)) a =
+          subst (λ w. x < seenTo w (size (steps s n .memory)) a) (steps-keep s n .0 ∙ e) (ltb-true x (codeEnd (steps s n .memory) a) (q .1)) in
+          let r = code-inside first end (size (steps s n .memory)) a x (leb-true a x (p .0)) below in
+          true≢false (sym (writes-patches (steps s j) first end x (steps-keep s j .0 ∙ e) (r .0) (r .1) h) ∙ z)
+
+  back : (d j n : ℕ) → d + j ≡ n → d ≤ 3 → Known g s K n → Unpatched s j n → Same (steps s j .memory) (steps s n .memory) (steps s n .machine .address)
   unfolding steps hasByte
-  back zero j n e b l =
+  back zero j n e b l z =
       let q : j ≡ n = omega arith in
       rw q (record { end = refl; at = λ x _ _ _. refl })
-  back (suc d) j n e b l =
+  back (suc d) j n e b l z =
       same-back (steps s j) (steps s n .memory) (steps s n .machine .address) (runs-before s (suc d) j n e (l .runs))
-      (back d (suc j) n (omega arith) (omega arith) l)
-      (λ x st lo hi q. u j n (omega arith) (omega arith) (l .below) (l .runs) x st (cc (le-leb _ _ lo, lt-ltb _ _ hi, lt-ltb _ _ q)))
+      (back d (suc j) n (omega arith) (omega arith) l (λ i p q. z i (omega arith) q))
+      (λ x st lo hi q. apart j n (omega arith) (omega arith) l (z j (omega arith) (omega arith)) x st (cc (le-leb _ _ lo, lt-ltb _ _ hi, lt-ltb _ _ q)))
 
-  pub sight : (j n : ℕ) → j ≤ n → n ≤ j + 3 → Known g s K n → fetch (steps s j .memory) (steps s n .machine .address) ≡ fetched (steps s n)
+  pub sight : (j n : ℕ) → j ≤ n → n ≤ j + 3 → Known g s K n → Unpatched s j n
+      → fetch (steps s j .memory) (steps s n .machine .address) ≡ fetched (steps s n)
   unfolding fetched
-  sight j n a b l = same-fetch (steps s j .memory) (steps s n .memory) (steps s n .machine .address) (back (n - j) j n (omega arith) (omega arith) l)
+  sight j n a b l z = same-fetch (steps s j .memory) (steps s n .memory) (steps s n .machine .address) (back (n - j) j n (omega arith) (omega arith) l z)

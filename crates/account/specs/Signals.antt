@@ -7,13 +7,13 @@ use Rattle.account.specs.Names.{StageD, bubbleD, inD, StageE, bubbleE, i
 use Rattle.machine.specs.Types.{isBad}
 use Rattle.machine.specs.Memory.{value}
 use Rattle.machine.specs.Table.{is, ret}
-use Rattle.machine.specs.Stages.{decode, execute, access, newCodes, newMemory, newRegisters, loadedTarget, sourceA, sourceB, turned}
+use Rattle.machine.specs.Stages.{decode, execute, access, newCodes, newMemory, newRegisters, loadedTarget, sourceA, sourceB, turned, straight, patches}
 use Rattle.machine.specs.Plain.{Plain, fetched, decoded, executed, accessed}
 use Rattle.clocked.specs.Prediction.{Core, predictedNext, mispredicted, meets, loadUse, takesLate, awaitedA}
 use Rattle.clocked.specs.Pipeline.{Piped, afterE, afterM, handedA, handed, executing, codesAfter, memoryAfter, registersAfter}
 use Rattle.clocked.specs.Pipeline.{pastResult, pastBoth, sourceW, sourceM, source, waitsBehind, waits, wrong, mispredicts, retInD, retInE, retInM, returns, badInW, fails}
-use Rattle.clocked.specs.Pipeline.{returnedTo, mended, fetchAddress, fetchedNow, nextF, nextD, decodedD, nextE, nextM, nextCodes, advanced}
-use Rattle.account.specs.Laws.{or-true, wrongAt}
+use Rattle.clocked.specs.Pipeline.{patchedInW, cancels, restart, returnedTo, mended, fetchAddress, fetchedNow, nextF, nextD, decodedD, nextE, nextM, nextCodes, advanced}
+use Rattle.account.specs.Laws.{or-true, wrongAt, patchesAt}
 use Rattle.laws.specs.Tests.{neither}
 
 -- the instruction in D is one for which j has to wait
@@ -40,18 +40,18 @@ same false x = refl
 
 module _ (g : Core) (p : Piped) where
   -- THE WORK OF D, E AND M
-  pub e-of : (i : Instruction) → waits g p ≡ false → mispredicts g p ≡ false → p .pipeline .d ≡ inD i → advanced g p .pipeline .e ≡ inE (decode i (source g p))
+  pub e-of : (i : Instruction) → cancels p ≡ false → waits g p ≡ false → mispredicts g p ≡ false → p .pipeline .d ≡ inD i → advanced g p .pipeline .e ≡ inE (decode i (source g p))
   unfolding advanced nextE decodedD
-  e-of i w m h = cc
+  e-of i z w m h = cc
 
   module _ (x : Decoded) (h : executing g p ≡ inE x) where
     pub mispredicts-of : mispredicts g p ≡ mispredicted g (x .instruction) (execute x (p .pipeline .codes) .holds)
     unfolding mispredicts wrong afterE execute
     mispredicts-of = cc
 
-    pub m-of : fails p ≡ false → advanced g p .pipeline .m ≡ inM (execute x (p .pipeline .codes))
+    pub m-of : cancels p ≡ false → fails p ≡ false → advanced g p .pipeline .m ≡ inM (execute x (p .pipeline .codes))
     unfolding advanced nextM afterE
-    m-of f = cc
+    m-of z f = cc
 
   module _ (x : Executed) (h : p .pipeline .m ≡ inM x) where
     pub w-of : advanced g p .pipeline .w ≡ inW (access x (p .memory))
@@ -61,6 +61,10 @@ module _ (g : Core) (p : Piped) where
     pub fails-of : fails p ≡ isBad (access x (p .memory) .status)
     unfolding fails badInW afterM
     fails-of = cc
+
+    pub cancels-of : cancels p ≡ patches x (p .memory)
+    unfolding cancels patchedInW afterM access
+    cancels-of = cc
 
     -- what a store in E is handed
     pub handed-of : (y : Decoded) → handedA g (afterM (p .pipeline .m) (p .memory)) y
@@ -86,12 +90,12 @@ module _ (g : Core) (p : Piped) where
   -- ... on the plain engine's own values
   module _ (s : Plain) where
     -- valA may come late
-    pub e-in : waits g p ≡ false → mispredicts g p ≡ false → p .pipeline .d ≡ inD (fetched s)
+    pub e-in : cancels p ≡ false → waits g p ≡ false → mispredicts g p ≡ false → p .pipeline .d ≡ inD (fetched s)
         → handedA g (afterM (advanced g p .pipeline .m) (advanced g p .memory)) (decode (fetched s) (source g p))
         ≡ value (s .machine .registers) (sourceA (fetched s))
         → source g p (sourceB (fetched s)) ≡ value (s .machine .registers) (sourceB (fetched s)) → executing g (advanced g p) ≡ inE (decoded s)
     unfolding decoded decode executing handed
-    e-in w m h a b = cc (e-of (fetched s) w m h)
+    e-in z w m h a b = cc (e-of (fetched s) z w m h)
 
     module _ (h : executing g p ≡ inE (decoded s)) (k : p .pipeline .codes ≡ s .machine .codes) where
       pub mispredicts-in : mispredicts g p ≡ wrongAt g s
@@ -102,10 +106,10 @@ module _ (g : Core) (p : Piped) where
       unfolding source afterE executed
       source-in q = cc
 
-      module _ (f : fails p ≡ false) where
+      module _ (z : cancels p ≡ false) (f : fails p ≡ false) where
         pub m-in : advanced g p .pipeline .m ≡ inM (executed s)
         unfolding executed
-        m-in = cc (m-of (decoded s) h f)
+        m-in = cc (m-of (decoded s) h z f)
 
         pub codes-in : advanced g p .pipeline .codes ≡ newCodes (decoded s) (s .machine .codes)
         unfolding advanced nextCodes codesAfter
@@ -119,6 +123,10 @@ module _ (g : Core) (p : Piped) where
       pub fails-in : fails p ≡ isBad (accessed s .status)
       unfolding accessed
       fails-in = cc (fails-of (executed s) h)
+
+      pub cancels-in : cancels p ≡ patchesAt s
+      unfolding patchesAt accessed access
+      cancels-in = cc (cancels-of (executed s) h)
 
       pub sourceM-in : (q : ℕ) → sourceM p q ≡ pastBoth (inW (accessed s)) q (sourceW p q)
       unfolding sourceM afterM accessed
@@ -147,6 +155,10 @@ module _ (g : Core) (p : Piped) where
     unfolding fails badInW afterM
     fails-bubble = cc
 
+    pub cancels-bubble : cancels p ≡ false
+    unfolding cancels patchedInW afterM
+    cancels-bubble = cc
+
     pub sourceM-bubble : (q : ℕ) → sourceM p q ≡ sourceW p q
     unfolding sourceM afterM pastBoth
     sourceM-bubble q = cc
@@ -174,11 +186,11 @@ module _ (g : Core) (p : Piped) where
 
     pub m-bubble : advanced g p .pipeline .m ≡ bubbleM
     unfolding executing handed advanced nextM afterE
-    m-bubble = cc (same {A = StageM} (fails p) bubbleM)
+    m-bubble = cc (same {A = StageM} (cancels p || fails p) bubbleM)
 
     pub codes-bubble : advanced g p .pipeline .codes ≡ p .pipeline .codes
     unfolding executing handed advanced nextCodes codesAfter
-    codes-bubble = cc (same (fails p) (p .pipeline .codes))
+    codes-bubble = cc (same (cancels p || fails p) (p .pipeline .codes))
 
     pub source-bubble : (q : ℕ) → source g p q ≡ sourceM p q
     unfolding executing handed source afterE pastResult
@@ -199,7 +211,7 @@ module _ (g : Core) (p : Piped) where
 
     pub e-bubble : advanced g p .pipeline .e ≡ bubbleE
     unfolding advanced nextE decodedD
-    e-bubble = cc (same {A = StageE} (mispredicts g p || waits g p) bubbleE)
+    e-bubble = cc (same {A = StageE} (cancels p || (mispredicts g p || waits g p)) bubbleE)
 
     pub retD-bubble : retInD (p .pipeline .d) ≡ false
     unfolding retInD
@@ -239,41 +251,63 @@ module _ (g : Core) (p : Piped) where
   returns-M a = cc (or-true (retInD (p .pipeline .d)), or-true (retInE (p .pipeline .e)))
 
   -- CONTROLLED: F, D, E and the codes
-  pub f-held : waits g p ≡ true → advanced g p .pipeline .predicted ≡ p .pipeline .predicted
+  pub f-held : cancels p ≡ false → waits g p ≡ true → advanced g p .pipeline .predicted ≡ p .pipeline .predicted
   unfolding advanced nextF
-  f-held w = cc
+  f-held z w = cc
 
-  pub f-next : (i : Instruction) → waits g p ≡ false → returns p ≡ false → fetchedNow g p ≡ i → advanced g p .pipeline .predicted ≡ predictedNext g i
+  pub f-next : (i : Instruction) → cancels p ≡ false → waits g p ≡ false → returns p ≡ false → fetchedNow g p ≡ i → advanced g p .pipeline .predicted ≡ predictedNext g i
   unfolding advanced nextF
-  f-next i w r h = cc
+  f-next i z w r h = cc
 
-  pub d-held : mispredicts g p ≡ false → waits g p ≡ true → advanced g p .pipeline .d ≡ p .pipeline .d
+  pub d-held : cancels p ≡ false → mispredicts g p ≡ false → waits g p ≡ true → advanced g p .pipeline .d ≡ p .pipeline .d
   unfolding advanced nextD
-  d-held m w = cc
+  d-held z m w = cc
 
   pub d-mispredicted : mispredicts g p ≡ true → advanced g p .pipeline .d ≡ bubbleD
   unfolding advanced nextD
-  d-mispredicted h = cc
+  d-mispredicted h = cc (or-true (cancels p))
 
   pub d-returning : waits g p ≡ false → returns p ≡ true → advanced g p .pipeline .d ≡ bubbleD
   unfolding advanced nextD
-  d-returning w h = cc (same {A = StageD} (mispredicts g p) bubbleD)
+  d-returning w h = cc (same {A = StageD} (cancels p || mispredicts g p) bubbleD)
 
-  pub d-next : (i : Instruction) → waits g p ≡ false → mispredicts g p ≡ false → returns p ≡ false → fetchedNow g p ≡ i → advanced g p .pipeline .d ≡ inD i
+  pub d-next : (i : Instruction) → cancels p ≡ false → waits g p ≡ false → mispredicts g p ≡ false → returns p ≡ false → fetchedNow g p ≡ i → advanced g p .pipeline .d ≡ inD i
   unfolding advanced nextD
-  d-next i w m r h = cc
+  d-next i z w m r h = cc
 
   pub e-waiting : waits g p ≡ true → advanced g p .pipeline .e ≡ bubbleE
   unfolding advanced nextE
-  e-waiting h = cc (or-true (mispredicts g p))
+  e-waiting h = cc (or-true (mispredicts g p), or-true (cancels p))
 
   pub e-mispredicted : mispredicts g p ≡ true → advanced g p .pipeline .e ≡ bubbleE
   unfolding advanced nextE
-  e-mispredicted h = cc
+  e-mispredicted h = cc (or-true (cancels p))
 
   pub codes-failing : fails p ≡ true → advanced g p .pipeline .codes ≡ p .pipeline .codes
   unfolding advanced nextCodes
-  codes-failing h = cc
+  codes-failing h = cc (or-true (cancels p))
+
+  -- CANCELLED: all that is younger than a store into the window
+  module _ (z : cancels p ≡ true) where
+    pub f-cancelled : (x : Executed) → p .pipeline .m ≡ inM x → advanced g p .pipeline .predicted ≡ straight (x .instruction)
+    unfolding advanced nextF restart
+    f-cancelled x h = cc
+
+    pub d-cancelled : advanced g p .pipeline .d ≡ bubbleD
+    unfolding advanced nextD
+    d-cancelled = cc
+
+    pub e-cancelled : advanced g p .pipeline .e ≡ bubbleE
+    unfolding advanced nextE
+    e-cancelled = cc
+
+    pub m-cancelled : advanced g p .pipeline .m ≡ bubbleM
+    unfolding advanced nextM
+    m-cancelled = cc
+
+    pub codes-cancelled : advanced g p .pipeline .codes ≡ p .pipeline .codes
+    unfolding advanced nextCodes
+    codes-cancelled = cc
 
   -- RETIREMENT
   pub registers-in : (s : Plain) → p .pipeline .w ≡ inW (accessed s) → p .pipeline .registers ≡ s .machine .registers
@@ -298,10 +332,10 @@ module _ (g : Core) (p : Piped) where
           neither (meets (loadedTarget (x .instruction)) (awaitedA g i)) (meets (loadedTarget (x .instruction)) (sourceB i)) k
 
   -- the wait of the next clock, when the instruction i has been fetched
-  pub waits-next : (i : Instruction) → waits g p ≡ false → mispredicts g p ≡ false → advanced g p .pipeline .d ≡ inD i
+  pub waits-next : (i : Instruction) → cancels p ≡ false → waits g p ≡ false → mispredicts g p ≡ false → advanced g p .pipeline .d ≡ inD i
       → waits g (advanced g p) ≡ waitsFor g (p .pipeline .d) i
   unfolding waits advanced waitsBehind nextE decodedD decode waitsFor
-  waits-next i w m h = rw h (go (p .pipeline .d) (advanced g p .pipeline .e) (cc))
+  waits-next i z w m h = rw h (go (p .pipeline .d) (advanced g p .pipeline .e) (cc))
     where
       go : (d : StageD) (e : StageE) → e ≡ decodedD g p d → waitsBehind g e (inD i) ≡ waitsFor g d i
       go bubbleD e q = cc
@@ -320,6 +354,12 @@ module _ (g : Core) (p : Piped) where
       goW bubbleW b = refl
       goW (inW w) b = cc
 
+  -- behind a bubble in M, where W has no return
+  pub at-restarted : (w : Accessed) → p .pipeline .m ≡ bubbleM → p .pipeline .w ≡ inW w → is ret (w .instruction) ≡ false
+      → fetchAddress g p ≡ p .pipeline .predicted
+  unfolding wrong retInW
+  at-restarted w h k r = at-predicted (cc) (cc)
+
   pub at-mended : (x : Executed) → p .pipeline .m ≡ inM x → mispredicted g (x .instruction) (x .holds) ≡ true
       → fetchAddress g p ≡ turned (x .instruction) (x .holds)
   unfolding fetchAddress mended
@@ -331,7 +371,7 @@ module _ (g : Core) (p : Piped) where
 
   wrong-next : mispredicts g p ≡ false → wrong g (advanced g p .pipeline .m) ≡ false
   unfolding advanced nextM mispredicts wrong
-  wrong-next h = go (fails p)
+  wrong-next h = go (cancels p || fails p)
     where
       go : (b : Bool) → wrong g (cond b bubbleM (afterE (executing g p) (p .pipeline .codes))) ≡ false
       go true = refl

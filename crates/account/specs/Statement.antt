@@ -10,7 +10,7 @@ use Rattle.machine.specs.Plain.{Plain, plainOf, plainStart, isStopped, accessed
 use Rattle.clocked.specs.Prediction.{Core, coreOf}
 use Rattle.clocked.specs.Charges.{retiredOf, kindsOf, due, dueCycles}
 use Rattle.clocked.specs.Pipeline.{Piped, pipedOf, pipeStart, clocks}
-use Rattle.clocked.specs.Premise.{Untouched}
+use Rattle.clocked.specs.Premise.{Premise}
 
 -- what both engines are started from, and the pipeline's settings
 pub record Start : Type 0 where
@@ -21,7 +21,7 @@ pub record Start : Type 0 where
   pub memory : Memory
 
 unfoldable pub plainFrom : Start → Plain
-plainFrom t = plainOf (plainStart (t .registers) (t .codes) (t .address)) (t .memory)
+plainFrom t = plainOf (plainStart (t .settings .window) (t .registers) (t .codes) (t .address)) (t .memory)
 
 unfoldable pub pipedFrom : Start → Piped
 pipedFrom t = pipedOf (pipeStart (t .settings) (t .registers) (t .codes) (t .address)) (t .memory)
@@ -68,9 +68,9 @@ pub record Agrees (g : Core) (s : Plain) (p : Piped) (c n : ℕ) : Type 0 where
       → (p .memory ≡ steps s n .memory) × (p .pipeline .codes ≡ steps s n .machine .codes) × (p .pipeline .cycles ≡ due g s n)
 
 -- "Start both alike." From every start, where among the first k + 1 instructions "no store writes a byte of any of the next three
--- instructions the plain engine performs", the pipeline agrees after every clock up to the cycle in which instruction k + 1 is due. It
+-- instructions the plain engine performs", which is asked only where no window is set (02, #113), the pipeline agrees after every clock up to the cycle in which instruction k + 1 is due. It
 -- holds of every core, whatever it guesses of conditional jumps, and so of the one that the start's settings choose.
 abbrev pub Demand3 : Type 0
 Demand3 =
-    (g : Core) (t : Start) → length (t .registers) ≡ 15 → (k : ℕ) → Untouched (plainFrom t) (suc k)
+    (g : Core) (t : Start) → length (t .registers) ≡ 15 → (k : ℕ) → Premise (plainFrom t) (suc k)
     → (c : ℕ) → c ≤ due g (plainFrom t) (suc k) → (n : ℕ) × Agrees g (plainFrom t) (clocks g (pipedFrom t) c) c n

@@ -14,7 +14,7 @@ use Rattle.clocked.specs.Prediction.{Core}
 use Rattle.clocked.specs.Charges.{reasonFrom, reasonOf, kindsOf, charge, charges, amount, due, dueCycles}
 use Rattle.clocked.specs.Pipeline.{Piped, pipeStart, waits, waitsBehind, mended, returnedTo, fetchAddress, lastAfter}
 use Rattle.clocked.specs.Pipeline.{retiredAfter, kindsAfter, keptAfter, logged, advanced, stoppedIn, clock, clocks}
-use Rattle.clocked.specs.Premise.{Untouched}
+use Rattle.clocked.specs.Premise.{Premise}
 use Rattle.account.specs.Statement.{Start, plainFrom, pipedFrom, DueBy, keptOf, Agrees, Demand3}
 use Rattle.account.specs.Laws
 use Rattle.account.specs.Laws.{bit}
@@ -123,7 +123,7 @@ module _ (g : Core) (s : Plain) (k : ℕ) where
       now : p .pipeline .cycles + 1 ≡ due g s (suc n)
       now = omega arith
 
-  module _ (len : (n : ℕ) → length (steps s n .machine .registers) ≡ 15) (u : Untouched s (suc k)) where
+  module _ (len : (n : ℕ) → length (steps s n .machine .registers) ≡ 15) (u : Premise s (suc k)) where
     module _ (p : Piped) (c n : ℕ) (i : Counted p n) (o : Older g s c n) (y : p .pipeline .cycles ≡ c) (v : p .pipeline .kept ≡ keptOf s n)
         (h : p .pipeline .registers ≡ steps s n .machine .registers) where
       after-bubble : isStopped (steps s n) ≡ false → p .pipeline .w ≡ bubbleW → AtM g s (suc k) p c n → After (advanced g p) (suc c) n
@@ -227,7 +227,7 @@ module _ (g : Core) (t : Start) (k : ℕ) where
             (emptyM refl refl refl (emptyE refl refl (emptyD refl (readyF (record { runs = refl; below = omega arith }) refl (inl refl) refl)))));
       }
 
-  pub after-clocks : length (t .registers) ≡ 15 → Untouched (plainFrom t) (suc k) → (c : ℕ) → c ≤ due g (plainFrom t) (suc k)
+  pub after-clocks : length (t .registers) ≡ 15 → Premise (plainFrom t) (suc k) → (c : ℕ) → c ≤ due g (plainFrom t) (suc k)
       → (n : ℕ) × After g (plainFrom t) k (clocks g (pipedFrom t) c) c n
   unfolding clocks plainFrom plainStart
   after-clocks l u zero q = (0, start-after)

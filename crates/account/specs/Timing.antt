@@ -5,7 +5,7 @@ use mathlib.Core.Logic.{_⊎_, inl, inr, ⊎-map}
 use mathlib.Core.Path.{_≡_, refl, sym, _∙_}
 use native.Mathlib.Omega.{arith}
 use native.Mathlib.Decide.{decLt}
-use Rattle.account.specs.Names.{Kinds, Reason, free, waited, wronglyGuessed, returned}
+use Rattle.account.specs.Names.{Kinds, Reason, free, waited, wronglyGuessed, returned, patched}
 use Rattle.machine.specs.Plain.{Plain, isStopped, steps}
 use Rattle.clocked.specs.Prediction.{Core}
 use Rattle.clocked.specs.Charges.{amount, noKinds, counted, reasonOf, charge, charges, kindsOf, due}
@@ -60,7 +60,7 @@ module _ (g : Core) (s : Plain) {c n : ℕ} (o : Older g s c n) where
   exactly-stopped h = exactly (λ z. absurd (true≢false (sym h ∙ z)))
 
 unfoldable pub total : Kinds → ℕ
-total t = t .loaduse + t .mispredict + t .returned
+total t = t .loaduse + t .mispredict + t .returned + t .patched
 
 pub total-counted : (t : Kinds) (r : Reason) → total (counted t r) ≡ total t + amount r
 unfolding total counted amount
@@ -68,6 +68,7 @@ total-counted t free = omega arith
 total-counted t waited = omega arith
 total-counted t wronglyGuessed = omega arith
 total-counted t returned = omega arith
+total-counted t patched = omega arith
 
 -- "The cycle counts kept by kind sum the charges"
 pub kinds-sum : (g : Core) (s : Plain) (n : ℕ) → total (kindsOf g s n) ≡ charges g s n
@@ -81,6 +82,7 @@ amount-most free = omega arith
 amount-most waited = omega arith
 amount-most wronglyGuessed = omega arith
 amount-most returned = omega arith
+amount-most patched = omega arith
 
 -- "at most 4n + 1": instruction 1 has charge 0, any other at most 3
 pub due-most : (g : Core) (s : Plain) (n : ℕ) → due g s (suc n) ≤ 4 * suc n + 1

@@ -11,15 +11,15 @@ use borrow.Author.Tests.{ltb-false, eqb-true, eqb-false}
 use lib.Dec.{ltb, eqb}
 use lib.ListN.{length, getD, length-append, List·getD-append}
 use lib.Seq.{getD-append-add}
-use Rattle.account.specs.Names.{Machine, Pipeline}
+use Rattle.account.specs.Names.{noWindow, Machine, Pipeline}
 use Rattle.machine.specs.Types.{isBad}
-use Rattle.machine.specs.Memory.{Memory, size}
+use Rattle.machine.specs.Memory.{Memory, size, through}
 use Rattle.machine.specs.Plain.{Plain, plainOf, plainStart, isStopped, steps}
 use Rattle.clocked.specs.Prediction.{Core, coreOf}
 use Rattle.clocked.specs.Charges.{kindsOf, due, dueCycles}
 use Rattle.clocked.specs.Pipeline.{pipedOf, pipeStart, clocks}
-use Rattle.clocked.specs.Premise.{Untouched}
-use Rattle.machine.specs.Runs.{laid, sizeRefused, budgetRefused, logRefused, plainLimit, plainAnswer, lowest}
+use Rattle.clocked.specs.Premise.{Premise}
+use Rattle.machine.specs.Runs.{laid, sizeRefused, budgetRefused, logRefused, windowRefused, plainLimit, plainAnswer, lowest}
 use Rattle.clocked.specs.PipeRuns.{recordRefused, pipeLimit, pipeAnswer}
 use Rattle.machine.specs.Runs.{plainRefusal, PlainAnswer, plainDone, plainBy, plainRun}
 use Rattle.clocked.specs.PipeRuns.{pipeRefusal, PipeAnswer, pipeDone, pipeBy, pipeRun, pipeRunUnlogged}
@@ -128,9 +128,9 @@ plain-ran : (k : Machine) (m : Memory) (budget : ℕ) (log : List ℕ) → plain
     → (plainRun k m budget log ≡ plainDone (steps (plainOf k m) budget) log) × (budget ≤ length log)
 unfolding plainRun plainBy plainRefusal lowest logRefused
 plain-ran k m budget log h =
-    let n = plainRefusal (size m) (k .count) budget (length log ∷ []) in
+    let n = plainRefusal (k .window) (size m) (k .count) budget (length log ∷ []) in
     let r = ran (λ (x : PlainAnswer). x .number) n (plainDone (steps (plainOf k m) budget) log) (plainAnswer n k m log) refl h in
-    let f = logs-fit (sizeRefused (size m)) (budgetRefused plainLimit (k .count) budget) (ltb (length log) budget || false) 0 (r .1) in
+    let f = logs-fit (sizeRefused (size m)) (budgetRefused plainLimit (k .count) budget) (ltb (length log) budget || false) (cond (windowRefused (k .window) (size m)) 5 0) (r .1) in
     (r .0, ltb-false (length log) budget (neither (ltb (length log) budget) false f .0))
 
 pipe-ran : (k : Pipeline) (m : Memory) (budget : ℕ) (a y : List ℕ) → pipeRun k m budget a y .number ≡ 0
@@ -140,7 +140,7 @@ pipe-ran k m budget a y h =
     let n = pipeRefusal k (size m) budget (length a ∷ length y ∷ []) in
     let r = ran (λ (x : PipeAnswer). x .number) n (pipeDone (clocks (coreOf (k .settings)) (pipedOf k m) budget) a y) (pipeAnswer n k m a y) refl h in
     let b = ltb (length y) budget || false in
-    let f = logs-fit (sizeRefused (size m)) (budgetRefused pipeLimit (k .cycles) budget) (ltb (length a) budget || b) (cond (recordRefused k) 5 0) (r .1) in
+    let f = logs-fit (sizeRefused (size m)) (budgetRefused pipeLimit (k .cycles) budget) (ltb (length a) budget || b) (cond (recordRefused k || windowRefused (k .settings .window) (size m)) 5 0) (r .1) in
     let e = neither (ltb (length a) budget) b f in
     (r .0, ltb-false (length a) budget (e .0), ltb-false (length y) budget (neither (ltb (length y) budget) false (e .1) .0))
 
@@ -169,13 +169,13 @@ pipeUnlogged t clocked = pipeRunUnlogged (pipedFrom t .pipeline) (t .memory) clo
 -- HOW FAR THE PREMISE REACHES: to instruction k + 1, and no clock is past its due cycle; or, of a plain run that stopped, over the
 -- instructions that it performed, and then the pipeline may run on as long as it likes
 pub data Covered (t : Start) (clocked : ℕ) (x : PlainAnswer) : Type 0 where
-  to-the-clock : (k : ℕ) → Untouched (plainFrom t) (suc k) → clocked ≤ due (chosen t) (plainFrom t) (suc k) → Covered t clocked x
-  to-the-stop : isBad (x .machine .status) ≡ true → Untouched (plainFrom t) (x .machine .count) → Covered t clocked x
+  to-the-clock : (k : ℕ) → Premise (plainFrom t) (suc k) → clocked ≤ due (chosen t) (plainFrom t) (suc k) → Covered t clocked x
+  to-the-stop : isBad (x .machine .status) ≡ true → Premise (plainFrom t) (x .machine .count) → Covered t clocked x
 
 -- WHAT MAY BE COMPARED, of any two runs
 pub record EndsAgree (t : Start) (budget clocked : ℕ) (x : PlainAnswer) (y : PipeAnswer) : Type 0 where
   -- the plain answer is the plain engine after as many instructions as it counts
-  pub plain : (x .machine ≡ steps (plainFrom t) (x .machine .count) .machine) × (x .memory ≡ steps (plainFrom t) (x .machine .count) .memory)
+  pub plain : (x .machine ≡ steps (plainFrom t) (x .machine .count) .machine) × (x .memory ≡ through noWindow (steps (plainFrom t) (x .machine .count) .memory))
   -- exactly the instructions that are due by the pipeline's last clock have retired
   pub exactly : DueBy (chosen t) (plainFrom t) clocked (y .pipeline .retired)
   pub kinds : y .pipeline .kinds ≡ kindsOf (chosen t) (plainFrom t) (y .pipeline .retired)
@@ -187,7 +187,7 @@ pub record EndsAgree (t : Start) (budget clocked : ℕ) (x : PlainAnswer) (y : P
   -- while it runs so is the instruction last retired, and every clock is counted; at a stop so are memory and codes
   pub running : isBad (y .pipeline .status) ≡ false → (y .pipeline .kept ≡ keptOf (plainFrom t) (y .pipeline .retired)) × (y .pipeline .cycles ≡ clocked)
   pub stopped : isBad (y .pipeline .status) ≡ true
-      → (y .memory ≡ steps (plainFrom t) (y .pipeline .retired) .memory) × (y .pipeline .codes ≡ steps (plainFrom t) (y .pipeline .retired) .machine .codes)
+      → (y .memory ≡ through noWindow (steps (plainFrom t) (y .pipeline .retired) .memory)) × (y .pipeline .codes ≡ steps (plainFrom t) (y .pipeline .retired) .machine .codes)
       × (y .pipeline .cycles ≡ due (chosen t) (plainFrom t) (y .pipeline .retired))
   -- as many have retired as the plain engine performed where either engine stopped and the other's budget reaches as far
   pub plain-stopped : isBad (x .machine .status) ≡ true → due (chosen t) (plainFrom t) (x .machine .count) ≤ clocked → x .machine .count ≡ y .pipeline .retired
@@ -270,7 +270,7 @@ module _ (t : Start) (budget clocked : ℕ) (log addresses cycles : List ℕ) wh
       ends-agree a b =
           let e = y .retired in
           record {
-            plain = (ap (λ (s : Plain). s .machine) there, ap (λ (s : Plain). s .memory) there);
+            plain = (ap (λ (s : Plain). s .machine) there, ap (λ (s : Plain). through noWindow (s .memory)) there);
             exactly = rw e (y .exactly);
             kinds = rw e (y .kinds);
             registers = rw e (y .registers);
@@ -278,7 +278,7 @@ module _ (t : Start) (budget clocked : ℕ) (log addresses cycles : List ℕ) wh
             last = rw e (y .last);
             blame = rw e (y .blame);
             running = λ h. rw e (y .kept h, y .running h);
-            stopped = λ h. rw e (y .stopped h);
+            stopped = λ h. let w = y .stopped h in rw e (ap (through noWindow) (w .0), w .1, w .2);
             plain-stopped = λ h z.
                 let by : due g (plainFrom t) q ≤ clocked = subst (λ (m : ℕ). due g (plainFrom t) m ≤ clocked) counts z in
                 let all = due-stopped g (plainFrom t) clocked q (x .each) (sym (ap isStopped (x .settled)) ∙ h) by in
@@ -317,7 +317,7 @@ module _ (t : Start) (budget clocked : ℕ) (log addresses cycles : List ℕ) wh
         let q = performed .1 in
         let same = ap (λ m. m .count) e ∙ counts (performed .0) q in
         let stopped = sym (ap isStopped (q .settled)) ∙ (sym (ap (λ m. isBad (m .status)) e) ∙ h) in
-        always g t l (untouched-on (plainFrom t) (performed .0) stopped (subst (Untouched (plainFrom t)) same u)) clocked
+        always g t l (untouched-on (plainFrom t) (performed .0) stopped (subst (Premise (plainFrom t)) same u)) clocked
 
     -- TWO RUNS, neither refused, as far as the premise reaches
     pub two-runs : pipeAnswered t clocked addresses cycles .number ≡ 0 → Covered t clocked (plainAnswered t budget log)
@@ -337,7 +337,7 @@ module _ (t : Start) (budget clocked : ℕ) (log addresses cycles : List ℕ) wh
         rw (plain-is .0, unlogged-ran (pipedFrom t .pipeline) (t .memory) clocked y .0) (ends-agree (performed .0) (performed .1) (d .0) (d .1) [] [])
 
     -- the premise up to instruction k + 1 alone: its line and those before it, where the plain engine performed it and it is due
-    pub first-lines : pipeAnswered t clocked addresses cycles .number ≡ 0 → (k : ℕ) → Untouched (plainFrom t) (suc k)
+    pub first-lines : pipeAnswered t clocked addresses cycles .number ≡ 0 → (k : ℕ) → Premise (plainFrom t) (suc k)
         → k < plainAnswered t budget log .machine .count → due g (plainFrom t) (suc k) ≤ clocked → (i : ℕ) → i < suc k
         → (getD (plainAnswered t budget log .log) i 0 ≡ getD (pipeAnswered t clocked addresses cycles .addresses) i 0)
         × (getD (pipeAnswered t clocked addresses cycles .cycles) i 0 ≡ due g (plainFrom t) (suc i))

@@ -5,12 +5,12 @@ use mathlib.Core.Path.{_≡_, refl, ap, sym, _∙_, subst}
 use native.Mathlib.Omega.{arith}
 use native.Mathlib.Decide.{decLt}
 use lib.ListN.{length}
-use Rattle.machine.specs.Types.{isBad}
-use Rattle.machine.specs.Plain.{Plain, isStopped, steps}
+use Rattle.machine.specs.Types.{isBad, isSet}
+use Rattle.machine.specs.Plain.{Plain, plainStart, isStopped, steps}
 use Rattle.clocked.specs.Prediction.{Core}
 use Rattle.clocked.specs.Charges.{due}
 use Rattle.clocked.specs.Pipeline.{Piped, clocks}
-use Rattle.clocked.specs.Premise.{Untouched}
+use Rattle.clocked.specs.Premise.{Premise}
 use Rattle.account.specs.Statement.{Start, plainFrom, pipedFrom, DueBy, Agrees}
 use Rattle.account.specs.Sight.{runs-before}
 use Rattle.account.specs.Timing.{Older, exactly, exactly-stopped, due-grows, due-order}
@@ -87,21 +87,26 @@ same-answer g s p q c m n a b = go (subst (λ (x : ℕ). Agrees g s p c x) (due-
         times false h = a .running h ∙ sym (b .running (sym (ap isBad same) ∙ h))
 
 -- from a stop on no instruction is performed: the premise over the n instructions up to it is the premise throughout
-pub untouched-on : (s : Plain) (n : ℕ) → isStopped (steps s n) ≡ true → Untouched s n → (K : ℕ) → Untouched s K
-untouched-on s n h u K j i a b c r x w y = go (decLt i n)
+pub untouched-on : (s : Plain) (n : ℕ) → isStopped (steps s n) ≡ true → Premise s n → (K : ℕ) → Premise s K
+untouched-on s n h u K o j i a b c r x w y = go (decLt i n)
   where
     go : Dec (i < n) → ⊥
-    go (yes q) = u j i a b q r x w y
+    go (yes q) = u o j i a b q r x w y
     go (no q) = true≢false (sym h ∙ runs-before s (i - n) n i (omega arith) r)
 
 -- from a stop on a clock changes nothing
 module _ (g : Core) (t : Start) (l : length (t .registers) ≡ 15) where
   -- THE UNBOUNDED FORM: where the premise holds throughout, after every clock
-  pub always : ((K : ℕ) → Untouched (plainFrom t) K) → (c : ℕ) → (n : ℕ) × Agrees g (plainFrom t) (clocks g (pipedFrom t) c) c n
+  pub always : ((K : ℕ) → Premise (plainFrom t) K) → (c : ℕ) → (n : ℕ) × Agrees g (plainFrom t) (clocks g (pipedFrom t) c) c n
   unfolding due
   always u c = demand3 g t l c (u (suc c)) c (omega arith)
 
-  module _ (k : ℕ) (u : Untouched (plainFrom t) (suc k)) where
+  -- WITH A WINDOW SET there is no premise: after every clock, whatever is stored where
+  pub with-window : isSet (t .settings .window) ≡ true → (c : ℕ) → (n : ℕ) × Agrees g (plainFrom t) (clocks g (pipedFrom t) c) c n
+  unfolding plainFrom plainStart
+  with-window w = always (λ K o. absurd (true≢false (sym w ∙ o)))
+
+  module _ (k : ℕ) (u : Premise (plainFrom t) (suc k)) where
     -- as many have retired as are due
     counted-off : (c n : ℕ) → c ≤ due g (plainFrom t) (suc k) → DueBy g (plainFrom t) c n → Agrees g (plainFrom t) (clocks g (pipedFrom t) c) c n
     counted-off c n q d =

@@ -1,12 +1,13 @@
 // Budgets, logs, answers: what the entries of both engines and of the host edge share.
 use machine::Codes;
 use machine::MEMORY_LIMIT;
+use machine::Window;
 ghost use mathlib.Core.Path.{_≡_};
 ghost use mathlib.Core.Bool.{cond};
 ghost use Prim.Native.Nat.{_≤_};
 ghost use lib.ListN.{set};
 ghost use Rattle.machine.specs.Types.{codesNumber};
-ghost use Rattle.machine.specs.Runs.{sizeRefused, budgetRefused, startRefused, startRefusal};
+ghost use Rattle.machine.specs.Runs.{sizeRefused, budgetRefused, startRefused, windowRefused, startRefusal};
 
 // Refusal 1: no memory, or more than 65,536 bytes.
 pub fn size_refused(size: usize) -> bool
@@ -22,12 +23,26 @@ pub fn start_refused(size: usize, address: u64) -> bool
     size as u64 <= address
 }
 
+// Refusal 5: a window that reaches past memory, or whose end is below its first address.
+pub fn window_refused(window: Window, size: usize) -> bool
+    ensures { λ r. ⌜ r ≡ windowRefused window size ⌝ }
+{
+    let n = size as u64;
+    match window {
+        Window::NoWindow => false,
+        Window::Within(first, end) => (n < first) | ((n < end) | (end < first)),
+    }
+}
+
 // The lowest refusal of a fresh start, or 0.
-pub fn start_refusal(size: usize, address: u64) -> u64
-    ensures { λ r. ⌜ r ≡ startRefusal size address ⌝ }
+pub fn start_refusal(window: Window, size: usize, address: u64) -> u64
+    ensures { λ r. ⌜ r ≡ startRefusal window size address ⌝ }
 {
     if size_refused(size) {
         return 1;
+    }
+    if window_refused(window, size) {
+        return 5;
     }
     if start_refused(size, address) {
         return 6;

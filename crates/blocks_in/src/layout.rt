@@ -39,7 +39,11 @@ pub const W_WORD: u64 = 12;
 
 pub const W_STATUS: u64 = 13;
 
+pub const W_PATCHED: u64 = 14;
+
 pub const KEPT_HOLDS: u64 = 10;
+
+pub const KEPT_PATCHED: u64 = 11;
 
 // In a state part, behind the registers.
 pub const ZF: u64 = 15;
@@ -61,6 +65,8 @@ pub const PROGRAM_ADDRESS: u64 = 22;
 
 pub const COUNT: u64 = 23;
 
+pub const MACHINE_WINDOW: u64 = 24;
+
 // In a pipeline block.
 pub const PREDICTED: u64 = 0;
 
@@ -72,20 +78,31 @@ pub const M: u64 = 23;
 
 pub const W: u64 = 36;
 
-pub const STATE: u64 = 50;
+pub const STATE: u64 = 51;
 
-pub const RETIRED: u64 = 72;
+pub const RETIRED: u64 = 73;
 
-pub const CYCLES: u64 = 73;
+pub const CYCLES: u64 = 74;
 
-pub const LOADUSE: u64 = 74;
+pub const LOADUSE: u64 = 75;
 
-pub const MISPREDICT: u64 = 75;
+pub const MISPREDICT: u64 = 76;
 
-pub const RETURNED: u64 = 76;
+pub const RETURNED: u64 = 77;
 
-pub const KEPT: u64 = 77;
+pub const PATCHED: u64 = 78;
 
-pub const RULE: u64 = 88;
+pub const KEPT: u64 = 79;
 
-pub const LATE: u64 = 89;
+pub const RULE: u64 = 91;
+
+pub const LATE: u64 = 92;
+
+pub const SETTINGS_WINDOW: u64 = 93;
+
+// In a window's part: whether there is one, its first address and its end.
+pub const WINDOWED: u64 = 0;
+
+pub const FIRST: u64 = 1;
+
+pub const END: u64 = 2;

@@ -8,11 +8,14 @@ use crate::layout::D;
 use crate::layout::E;
 use crate::layout::E_A;
 use crate::layout::E_B;
+use crate::layout::END;
 use crate::layout::FAULT;
 use crate::layout::FAULT_ADDRESS;
+use crate::layout::FIRST;
 use crate::layout::FUNCTION;
 use crate::layout::KEPT;
 use crate::layout::KEPT_HOLDS;
+use crate::layout::KEPT_PATCHED;
 use crate::layout::LAST;
 use crate::layout::LATE;
 use crate::layout::LOADUSE;
@@ -20,10 +23,12 @@ use crate::layout::M;
 use crate::layout::M_A;
 use crate::layout::M_HOLDS;
 use crate::layout::M_RESULT;
+use crate::layout::MACHINE_WINDOW;
 use crate::layout::MARK;
 use crate::layout::MISPREDICT;
 use crate::layout::NEXT;
 use crate::layout::OF;
+use crate::layout::PATCHED;
 use crate::layout::PREDICTED;
 use crate::layout::PROGRAM_ADDRESS;
 use crate::layout::RA;
@@ -31,6 +36,7 @@ use crate::layout::RB;
 use crate::layout::RETIRED;
 use crate::layout::RETURNED;
 use crate::layout::RULE;
+use crate::layout::SETTINGS_WINDOW;
 use crate::layout::SF;
 use crate::layout::STATE;
 use crate::layout::STATE_FAULT;
@@ -38,9 +44,11 @@ use crate::layout::STATE_STATUS;
 use crate::layout::STATUS;
 use crate::layout::W;
 use crate::layout::W_HOLDS;
+use crate::layout::W_PATCHED;
 use crate::layout::W_RESULT;
 use crate::layout::W_STATUS;
 use crate::layout::W_WORD;
+use crate::layout::WINDOWED;
 use crate::layout::ZF;
 use clocked::Kept;
 use clocked::Kinds;
@@ -60,6 +68,7 @@ use machine::Fault;
 use machine::Instruction;
 use machine::Machine;
 use machine::Status;
+use machine::Window;
 
 // The word at a place of a part; one that the block lacks reads 0.
 fn word_at(block: &[u64], part: u64, place: u64) -> u64 {
@@ -165,6 +174,7 @@ fn w_in(block: &[u64]) -> StageW {
         holds: truth_at(block, W, W_HOLDS),
         word: word_at(block, W, W_WORD),
         status: status_at(block, W, W_STATUS),
+        patched: truth_at(block, W, W_PATCHED),
     };
     StageW::InW(accessed)
 }
@@ -176,6 +186,7 @@ fn kept_in(block: &[u64]) -> Kept {
     let retired = Retired {
         instruction: instruction_in(block, KEPT),
         holds: truth_at(block, KEPT, KEPT_HOLDS),
+        patched: truth_at(block, KEPT, KEPT_PATCHED),
     };
     Kept::LastKept(retired)
 }
@@ -185,6 +196,7 @@ fn kinds_in(block: &[u64]) -> Kinds {
         loaduse: word_at(block, LOADUSE, 0),
         mispredict: word_at(block, MISPREDICT, 0),
         returned: word_at(block, RETURNED, 0),
+        patched: word_at(block, PATCHED, 0),
     }
 }
 
@@ -217,6 +229,15 @@ pub fn codes_in(block: &[u64], state: u64) -> Codes {
     }
 }
 
+pub fn window_in(block: &[u64], part: u64) -> Window {
+    if !truth_at(block, part, WINDOWED) {
+        return Window::NoWindow;
+    }
+    let first = word_at(block, part, FIRST);
+    let end = word_at(block, part, END);
+    Window::Within(first, end)
+}
+
 pub fn machine_in(block: &[u64]) -> Machine {
     Machine {
         registers: registers_in(block, 0),
@@ -226,6 +247,7 @@ pub fn machine_in(block: &[u64]) -> Machine {
         last: word_at(block, 0, LAST),
         count: word_at(block, COUNT, 0),
         blame: blame_in(block, 0),
+        window: window_in(block, MACHINE_WINDOW),
     }
 }
 
@@ -233,6 +255,7 @@ pub fn settings_in(block: &[u64]) -> Settings {
     Settings {
         rule: byte_at(block, RULE, 0),
         late: truth_at(block, LATE, 0),
+        window: window_in(block, SETTINGS_WINDOW),
     }
 }
 

@@ -9,11 +9,14 @@ use blocks_in::layout::D;
 use blocks_in::layout::E;
 use blocks_in::layout::E_A;
 use blocks_in::layout::E_B;
+use blocks_in::layout::END;
 use blocks_in::layout::FAULT;
 use blocks_in::layout::FAULT_ADDRESS;
+use blocks_in::layout::FIRST;
 use blocks_in::layout::FUNCTION;
 use blocks_in::layout::KEPT;
 use blocks_in::layout::KEPT_HOLDS;
+use blocks_in::layout::KEPT_PATCHED;
 use blocks_in::layout::LAST;
 use blocks_in::layout::LATE;
 use blocks_in::layout::LOADUSE;
@@ -21,10 +24,12 @@ use blocks_in::layout::M;
 use blocks_in::layout::M_A;
 use blocks_in::layout::M_HOLDS;
 use blocks_in::layout::M_RESULT;
+use blocks_in::layout::MACHINE_WINDOW;
 use blocks_in::layout::MARK;
 use blocks_in::layout::MISPREDICT;
 use blocks_in::layout::NEXT;
 use blocks_in::layout::OF;
+use blocks_in::layout::PATCHED;
 use blocks_in::layout::PREDICTED;
 use blocks_in::layout::PROGRAM_ADDRESS;
 use blocks_in::layout::RA;
@@ -32,6 +37,7 @@ use blocks_in::layout::RB;
 use blocks_in::layout::RETIRED;
 use blocks_in::layout::RETURNED;
 use blocks_in::layout::RULE;
+use blocks_in::layout::SETTINGS_WINDOW;
 use blocks_in::layout::SF;
 use blocks_in::layout::STATE;
 use blocks_in::layout::STATE_FAULT;
@@ -39,9 +45,11 @@ use blocks_in::layout::STATE_STATUS;
 use blocks_in::layout::STATUS;
 use blocks_in::layout::W;
 use blocks_in::layout::W_HOLDS;
+use blocks_in::layout::W_PATCHED;
 use blocks_in::layout::W_RESULT;
 use blocks_in::layout::W_STATUS;
 use blocks_in::layout::W_WORD;
+use blocks_in::layout::WINDOWED;
 use blocks_in::layout::ZF;
 use clocked::Kept;
 use clocked::Kinds;
@@ -56,6 +64,7 @@ use machine::Fault;
 use machine::Instruction;
 use machine::Machine;
 use machine::Status;
+use machine::Window;
 
 // A word to a place of a part; a place that the block lacks takes nothing.
 fn put(block: &mut [u64], part: u64, place: u64, word: u64) {
@@ -178,6 +187,7 @@ fn put_w(block: &mut [u64], w: StageW) {
             put_truth(block, W, W_HOLDS, x.holds);
             put(block, W, W_WORD, x.word);
             put_status(block, W, W_STATUS, status);
+            put_truth(block, W, W_PATCHED, x.patched);
         }
     }
 }
@@ -189,6 +199,7 @@ fn put_kept(block: &mut [u64], kept: Kept) {
             let i = x.instruction;
             put_instruction(block, KEPT, i);
             put_truth(block, KEPT, KEPT_HOLDS, x.holds);
+            put_truth(block, KEPT, KEPT_PATCHED, x.patched);
         }
     }
 }
@@ -218,6 +229,7 @@ fn put_kinds(block: &mut [u64], kinds: Kinds) {
     put(block, LOADUSE, 0, kinds.loaduse);
     put(block, MISPREDICT, 0, kinds.mispredict);
     put(block, RETURNED, 0, kinds.returned);
+    put(block, PATCHED, 0, kinds.patched);
 }
 
 fn put_stages(block: &mut [u64], p: Pipeline) {
@@ -254,6 +266,17 @@ fn put_state(
     put(block, state, LAST, last);
 }
 
+fn put_window(block: &mut [u64], part: u64, window: Window) {
+    match window {
+        Window::NoWindow => put_truth(block, part, WINDOWED, false),
+        Window::Within(first, end) => {
+            put_truth(block, part, WINDOWED, true);
+            put(block, part, FIRST, first);
+            put(block, part, END, end);
+        }
+    }
+}
+
 pub fn put_pipeline(block: &mut [u64], p: Pipeline) {
     let blame = p.blame;
     let settings = p.settings;
@@ -267,6 +290,8 @@ pub fn put_pipeline(block: &mut [u64], p: Pipeline) {
     put_counts(block, p);
     put(block, RULE, 0, settings.rule as u64);
     put_truth(block, LATE, 0, settings.late);
+    let window = settings.window;
+    put_window(block, SETTINGS_WINDOW, window);
 }
 
 pub fn put_machine(block: &mut [u64], m: Machine) {
@@ -278,4 +303,6 @@ pub fn put_machine(block: &mut [u64], m: Machine) {
     put_blame(block, 0, blame);
     put(block, PROGRAM_ADDRESS, 0, m.address);
     put(block, COUNT, 0, m.count);
+    let window = m.window;
+    put_window(block, MACHINE_WINDOW, window);
 }

@@ -55,7 +55,7 @@ abbrev log : List ℕ
 log = replicate budget 0
 
 abbrev byPlain : Case → PlainAnswer
-byPlain c = plainRun (plainStart (given (c .registers)) fresh 0) (memoryOf c) budget log
+byPlain c = plainRun (plainStart (c .settings .window) (given (c .registers)) fresh 0) (memoryOf c) budget log
 
 abbrev byPipeline : Case → PipeAnswer
 byPipeline c = pipeRun (pipeStart (c .settings) (given (c .registers)) fresh 0) (memoryOf c) budget log log
@@ -64,7 +64,7 @@ byPipeline c = pipeRun (pipeStart (c .settings) (given (c .registers)) fresh 0) 
 abbrev inPlain : Case → PlainAnswer → What → ℕ → ℕ
 inPlain c s register q = getD (s .machine .registers) q 0
 inPlain c s word a = number 8 (s .memory .bytes) a
-inPlain c s charged k = charge (coreOf (c .settings)) (plainOf (plainStart (given (c .registers)) fresh 0) (memoryOf c)) k
+inPlain c s charged k = charge (coreOf (c .settings)) (plainOf (plainStart (c .settings .window) (given (c .registers)) fresh 0) (memoryOf c)) k
 
 -- a charge is seen in the cycles in which k and its predecessor retired
 abbrev inPipeline : PipeAnswer → What → ℕ → ℕ
@@ -81,7 +81,7 @@ abbrev answered : PlainAnswer → PipeAnswer → List ℕ
 answered s p =
     s .number ∷ statusNumber (s .machine .status) ∷ s .machine .last ∷ codesNumber (s .machine .codes) ∷ s .machine .count
     ∷ p .number ∷ statusNumber (p .pipeline .status) ∷ p .pipeline .last ∷ codesNumber (p .pipeline .codes) ∷ p .pipeline .retired
-    ∷ p .pipeline .cycles ∷ p .pipeline .kinds .loaduse ∷ p .pipeline .kinds .mispredict ∷ p .pipeline .kinds .returned ∷ []
+    ∷ p .pipeline .cycles ∷ p .pipeline .kinds .loaduse ∷ p .pipeline .kinds .mispredict ∷ p .pipeline .kinds .returned ∷ p .pipeline .kinds .patched ∷ []
 
 abbrev expected : Case → List ℕ
 expected c =

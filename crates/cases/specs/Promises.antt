@@ -16,7 +16,7 @@ use Rattle.encoding.specs.Encode.{Fields}
 use Rattle.writing_edge.specs.Writings.{Written, encoded, listingWritten}
 use Rattle.dayreport.specs.Program.{answeredInput}
 use Rattle.together.specs.Both.{BothAnswer, bothRuns}
-use Rattle.cases.specs.Names.{Codes, FetchAnswer, Machine, Pipeline}
+use Rattle.cases.specs.Names.{Window, Codes, FetchAnswer, Machine, Pipeline}
 
 -- an open operation: what a caller gives and lends; what it has afterwards, the number, the record and all lent bytes and words; and the
 -- definition that its contract equates with that
@@ -40,9 +40,9 @@ promising G A f = record { Given = G; Answer = A; promised = f }
 abbrev pub fetching : Operation
 fetching = promising (Memory × ℕ) FetchAnswer (λ x. fetchAnswer (x .0) (x .1))
 
--- plain::start: a fresh start in memory of a size, of registers, codes and address; the number, and the record
+-- plain::start: a fresh start with a window, in memory of a size, of registers, codes and address; the number, and the record
 abbrev pub plain-start : Operation
-plain-start = promising (ℕ × Registers × Codes × ℕ) (ℕ × Machine) (λ x. plainStarted (x .0) (x .1) (x .2) (x .3))
+plain-start = promising (Window × ℕ × Registers × Codes × ℕ) (ℕ × Machine) (λ x. plainStarted (x .0) (x .1) (x .2) (x .3) (x .4))
 
 -- plain::step: "A step or clock is a run of 1 without logs."
 abbrev pub plain-step : Operation

@@ -4,7 +4,7 @@ use mathlib.Core.Path.{_≡_, refl}
 use mathlib.Core.Bool.{true}
 use mathlib.Core.List.{List, [], _∷_}
 use Rattle.clocked.specs.Prediction.{asIn01}
-use Rattle.cases.specs.Names.{Status, hlt, adr, ins, Settings}
+use Rattle.cases.specs.Names.{Status, hlt, adr, ins, Settings, noWindow, within}
 use Rattle.cases.specs.Asked.{Case, Look, register, word, charged, allHold}
 
 -- the settings; N, how many bytes are given, the bytes as they are written, the registers that are not 0; then
@@ -22,7 +22,27 @@ caseAt g n k x r t a c i y l m u s =
       codes = c;
       retired = i;
       cycles = y;
-      kinds = l ∷ m ∷ u ∷ [];
+      kinds = l ∷ m ∷ u ∷ 0 ∷ [];
+      looks = s;
+    }
+
+-- a program that patches itself, seen through a window (02, #113): its first address and end go before the rest, and the cycles charged behind its
+-- stores into the window come last of the kinds
+abbrev patching : (first end size bytes image : ℕ) → List (ℕ × ℕ) → Status → (last codes retired cycles loaduse mispredict returned patched : ℕ) → List Look
+    → Case
+patching first end n k x r t a c i y l m u p s =
+    record {
+      settings = record { rule = 0; late = false; window = within first end };
+      size = n;
+      bytes = k;
+      image = x;
+      registers = r;
+      status = t;
+      last = a;
+      codes = c;
+      retired = i;
+      cycles = y;
+      kinds = l ∷ m ∷ u ∷ p ∷ [];
       looks = s;
     }
 
@@ -31,7 +51,7 @@ case = caseAt asIn01
 
 -- late store data, by the rule of that number
 abbrev late : ℕ → Settings
-late n = record { rule = n; late = true }
+late n = record { rule = n; late = true; window = noWindow }
 
 unfoldable pub cases : List Case
 cases =
@@ -120,6 +140,25 @@ cases =
     ∷ case 256 66 0x30f20900000000000000_30f31500000000000000_6123_30f48000000000000000_40436400000000000000_a02f_b00f_734000000000000000_804100000000000000_00_90 [] hlt 0x40 0 11 20 0 2 3 ((register, 0, 9) ∷ (register, 3, 12) ∷ (register, 4, 128) ∷ (word, 120, 64) ∷ [])
     -- the listing of 004 stops at 0x13 after 33, in 52 cycles
     ∷ case 256 161 0x30f40001000000000000_804000000000000000_00_00000000_0d000d000d000d00_c000c000c000c000_000b000b000b000b_00a000a000a000a0_0000000000000000_30f71800000000000000_805400000000000000_90_30f80100000000000000_30f90800000000000000_30f00000000000000000_50270000000000000000_6222_73a000000000000000_6080_6097_50270000000000000000_6222_748700000000000000_90 [] hlt 0x13 4 33 52 5 4 6 ((register, 0, 4) ∷ (register, 4, 0x100) ∷ (register, 7, 0x38) ∷ (register, 8, 1) ∷ (register, 9, 8) ∷ (word, 0xf0, 0x53) ∷ (word, 0xf8, 0x13) ∷ [])
+    -- #113: rmmovq %rax, 12(%rcx) writes halts where the third nop behind it stands
+    ∷ patching 0 20 20 20 0x4001_0c00000000000000_10101010101010101010 [] hlt 12 4 4 11 0 0 0 3 ((charged, 2, 3) ∷ [])
+    -- #113: the same byte written again counts as written
+    ∷ patching 0 20 20 20 0x4001_0c00000000000000_10101010101010101010 ((0, 0x1010101010101010) ∷ []) adr 20 4 12 19 0 0 0 3 []
+    -- #113: window edges split by the store: its first byte is the window's last; it lies beside the window
+    ∷ patching 0 13 20 20 0x4001_0c00000000000000_10101010101010101010 [] hlt 12 4 4 11 0 0 0 3 []
+    ∷ patching 0 12 20 20 0x4001_0c00000000000000_10101010101010101010 [] adr 12 4 4 8 0 0 0 0 []
+    -- #113: an empty window stops at the first instruction
+    ∷ patching 0 0 20 20 0x4001_0c00000000000000_10101010101010101010 [] adr 0 4 1 5 0 0 0 0 []
+    -- #113: pushq into the next instruction
+    ∷ patching 0 10 10 10 0xa00f_1010101010101010 ((4, 10) ∷ []) hlt 2 4 2 9 0 0 0 3 ((register, 4, 2) ∷ [])
+    -- #113: call that writes its target: 9 is a halt of function 9
+    ∷ patching 0 17 17 17 0x80_0900000000000000_1010101010101010 ((4, 17) ∷ []) ins 9 4 2 9 0 0 0 3 ((word, 9, 9) ∷ (register, 4, 9) ∷ [])
+    -- #113: the cancelled addq sets no codes
+    ∷ patching 0 18 18 18 0x4001_0a00000000000000_6000_101010101010 ((0, 2 ^ 63) ∷ []) hlt 10 4 2 9 0 0 0 3 []
+    -- #113: with a wrongly guessed jump in E, with a load-use wait in D, with a ret in D
+    ∷ patching 0 27 27 27 0x4001_1300000000000000_74_0000000000000000_1010101010101010 [] hlt 19 4 3 12 0 2 0 3 []
+    ∷ patching 0 30 30 30 0x4001_1600000000000000_5021_0000000000000000_6022_1010101010101010 [] hlt 22 0 4 12 1 0 0 3 ((register, 2, 0x2c0280) ∷ [])
+    ∷ patching 0 28 28 28 0x4001_0c00000000000000_10_90_1010101010101010_1300000000000000 ((4, 20) ∷ []) hlt 19 4 4 14 0 0 3 3 ((register, 4, 28) ∷ [])
     ∷ []
 
 -- every case holds

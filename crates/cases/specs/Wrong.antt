@@ -70,7 +70,7 @@ asPipeUnlogged f x = f (x .0) (x .1) (x .2) [] []
 
 -- either engine's record at a fresh start, and a log that is long enough
 abbrev plainAt : Start → Machine
-plainAt t = plainStart (t .registers) (t .codes) (t .address)
+plainAt t = plainStart (t .settings .window) (t .registers) (t .codes) (t .address)
 
 abbrev pipeAt : Start → Pipeline
 pipeAt t = pipeStart (t .settings) (t .registers) (t .codes) (t .address)

@@ -2,3 +2,4 @@ pub mod Registers
 pub mod Stops
 pub mod Settings
 pub mod Late
+pub mod Window

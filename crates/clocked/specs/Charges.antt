@@ -4,39 +4,43 @@ use Prim.Native.Nat.{ℕ, zero, suc, _+_}
 use mathlib.Core.Bool.{cond, not, _&&_}
 use mathlib.Core.List.{List, [], _∷_, _++_}
 use lib.Dec.{eqb}
-use Rattle.clocked.specs.Record.{Instruction, Accessed, Retired, Kept, noneKept, lastKept, Reason, free, waited, wronglyGuessed, returned, Kinds}
+use Rattle.clocked.specs.Record.{Instruction, Accessed, Retired, Kept, noneKept, lastKept, Reason, free, waited, wronglyGuessed, returned, patched, Kinds}
 use Rattle.machine.specs.Table.{is, ret}
 use Rattle.clocked.specs.Prediction.{Core, mispredicted, loadUse}
 use Rattle.machine.specs.Plain.{Plain, fetched, accessed, steps}
 
 -- "Charge of instruction k ≥ 2, by its predecessor: 1 if that loads a register among k's sources; 2 if it was a conditional jump not
--- taken; 3 if ret; else 0." "The charge of 2 falls after a conditional jump whose outcome differs from the prediction" (02, #105)
+-- taken; 3 if ret; else 0." "The charge of 2 falls after a conditional jump whose outcome differs from the prediction" (02, #105);
+-- behind a store into the window "The following instruction is charged 3, kept as a fourth kind" (02, #113), which goes before the others
 unfoldable pub reasonBehind : Core → Retired → Instruction → Reason
 reasonBehind g k j =
     let i = k .instruction in
-    cond (loadUse g i j) waited
+    cond (k .patched) patched
+    (cond (loadUse g i j) waited
     (cond (mispredicted g i (k .holds) && not (eqb (i .function) 0)) wronglyGuessed
-    (cond (is ret i) returned free))
+    (cond (is ret i) returned free)))
 
 unfoldable pub amount : Reason → ℕ
 amount free = 0
 amount waited = 1
 amount wronglyGuessed = 2
 amount returned = 3
+amount patched = 3
 
 -- "The cycle counts kept by kind sum the charges" "(a return adds 3)"
 unfoldable pub noKinds : Kinds
-noKinds = record { loaduse = 0; mispredict = 0; returned = 0 }
+noKinds = record { loaduse = 0; mispredict = 0; returned = 0; patched = 0 }
 
 unfoldable pub counted : Kinds → Reason → Kinds
 counted t free = t
-counted t waited = record { loaduse = t .loaduse + 1; mispredict = t .mispredict; returned = t .returned }
-counted t wronglyGuessed = record { loaduse = t .loaduse; mispredict = t .mispredict + 2; returned = t .returned }
-counted t returned = record { loaduse = t .loaduse; mispredict = t .mispredict; returned = t .returned + 3 }
+counted t waited = record { loaduse = t .loaduse + 1; mispredict = t .mispredict; returned = t .returned; patched = t .patched }
+counted t wronglyGuessed = record { loaduse = t .loaduse; mispredict = t .mispredict + 2; returned = t .returned; patched = t .patched }
+counted t returned = record { loaduse = t .loaduse; mispredict = t .mispredict; returned = t .returned + 3; patched = t .patched }
+counted t patched = record { loaduse = t .loaduse; mispredict = t .mispredict; returned = t .returned; patched = t .patched + 3 }
 
 -- "the record keeps the last instruction retired with AOK"
 unfoldable pub retiredOf : Accessed → Retired
-retiredOf w = record { instruction = w .instruction; holds = w .holds }
+retiredOf w = record { instruction = w .instruction; holds = w .holds; patched = w .patched }
 
 -- "with none kept, the next one retired is charged 0"
 unfoldable pub reasonFrom : Core → Kept → Instruction → Reason

@@ -15,7 +15,7 @@ unfolding
     Charges.charges Charges.kindsOf Charges.due Charges.dueCycles
     Pipeline.pipeStart Pipeline.afterE Pipeline.afterM Pipeline.handedA Pipeline.handed Pipeline.executing Pipeline.codesAfter
     Pipeline.memoryAfter Pipeline.registersAfter Pipeline.pastResult Pipeline.pastBoth Pipeline.sourceW Pipeline.sourceM Pipeline.source Pipeline.waitsBehind Pipeline.waits
-    Pipeline.wrong Pipeline.mispredicts Pipeline.retInD Pipeline.retInE Pipeline.retInM Pipeline.returns Pipeline.badInW Pipeline.fails Pipeline.returnedTo Pipeline.mended
+    Pipeline.wrong Pipeline.mispredicts Pipeline.retInD Pipeline.retInE Pipeline.retInM Pipeline.returns Pipeline.badInW Pipeline.fails Pipeline.patchedInW Pipeline.cancels Pipeline.restart Pipeline.returnedTo Pipeline.mended
     Pipeline.fetchAddress Pipeline.fetchedNow Pipeline.nextF Pipeline.nextD Pipeline.decodedD Pipeline.nextE Pipeline.nextM Pipeline.nextCodes
     Pipeline.lastAfter Pipeline.retiredAfter Pipeline.kindsAfter Pipeline.keptAfter Pipeline.logged Pipeline.advanced Pipeline.stoppedIn
     Pipeline.clockBy Pipeline.clock Pipeline.clocks

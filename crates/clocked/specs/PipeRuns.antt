@@ -4,10 +4,10 @@ use mathlib.Core.Bool.{Bool, false, cond, _&&_, _||_}
 use mathlib.Core.List.{List, [], _∷_}
 use lib.Dec.{ltb, leb, eqb}
 use lib.ListN.{length}
-use Rattle.machine.specs.Memory.{Memory, size, Registers}
+use Rattle.machine.specs.Memory.{Memory, size, through, Registers}
 use Rattle.machine.specs.Table.{rowOf, is, cmov, operation, jump}
-use Rattle.machine.specs.Runs.{laid, sizeRefused, budgetRefused, logRefused, startRefused, lowest}
-use Rattle.clocked.specs.Record.{Settings, Pipeline, Instruction, StageD, bubbleD, inD, StageE, bubbleE, inE, StageM, bubbleM, inM, StageW, bubbleW, inW}
+use Rattle.machine.specs.Runs.{laid, sizeRefused, budgetRefused, logRefused, startRefused, windowRefused, lowest}
+use Rattle.clocked.specs.Record.{Settings, noWindow, Pipeline, Instruction, StageD, bubbleD, inD, StageE, bubbleE, inE, StageM, bubbleM, inM, StageW, bubbleW, inW}
 use Rattle.clocked.specs.Record.{Codes, Kept, noneKept, lastKept}
 use Rattle.clocked.specs.Prediction.{coreOf}
 use Rattle.clocked.specs.Pipeline.{Piped, pipedOf, pipeStart, clocks}
@@ -43,7 +43,7 @@ refusedKept (lastKept k) = instructionRefused (k .instruction)
 unfoldable pub countsRefused : Pipeline → Bool
 countsRefused k =
     ltb (k .cycles) (k .retired) || (ltb (k .cycles) (k .kinds .loaduse)
-    || (ltb (k .cycles) (k .kinds .mispredict) || ltb (k .cycles) (k .kinds .returned)))
+    || (ltb (k .cycles) (k .kinds .mispredict) || (ltb (k .cycles) (k .kinds .returned) || ltb (k .cycles) (k .kinds .patched))))
 
 -- 5: "A rule number other than these three" (02, #105)
 unfoldable pub settingsRefused : Settings → Bool
@@ -56,7 +56,8 @@ recordRefused k =
 
 -- A FRESH START, refused as the plain engine's is, and for its settings
 unfoldable pub pipeStartRefusal : Settings → (size address : ℕ) → ℕ
-pipeStartRefusal s size a = lowest ((1, sizeRefused size) ∷ (5, settingsRefused s) ∷ (6, startRefused size a) ∷ [])
+pipeStartRefusal s size a =
+    lowest ((1, sizeRefused size) ∷ (5, settingsRefused s || windowRefused (s .window) size) ∷ (6, startRefused size a) ∷ [])
 
 unfoldable pub pipeStarted : Settings → ℕ → Registers → Codes → ℕ → ℕ × Pipeline
 pipeStarted s size r c a = (pipeStartRefusal s size a, pipeStart s r c a)
@@ -69,7 +70,8 @@ pipeLimit = 262145
 unfoldable pub pipeRefusal : Pipeline → (size budget : ℕ) → List ℕ → ℕ
 pipeRefusal k size budget logs =
     lowest
-    ((1, sizeRefused size) ∷ (3, budgetRefused pipeLimit (k .cycles) budget) ∷ (4, logRefused logs budget) ∷ (5, recordRefused k) ∷ [])
+    ((1, sizeRefused size) ∷ (3, budgetRefused pipeLimit (k .cycles) budget) ∷ (4, logRefused logs budget)
+    ∷ (5, recordRefused k || windowRefused (k .settings .window) size) ∷ [])
 
 pub record PipeAnswer : Type 0 where
   pub number : ℕ
@@ -81,8 +83,9 @@ pub record PipeAnswer : Type 0 where
 abbrev pub pipeAnswer : ℕ → Pipeline → Memory → List ℕ → List ℕ → PipeAnswer
 pipeAnswer n k m a y = record { number = n; pipeline = k; memory = m; addresses = a; cycles = y }
 
+-- memory is given back as it was lent, without a window
 unfoldable pub pipeDone : Piped → List ℕ → List ℕ → PipeAnswer
-pipeDone p a y = pipeAnswer 0 (p .pipeline) (p .memory) (laid (p .addressLog) a) (laid (p .cycleLog) y)
+pipeDone p a y = pipeAnswer 0 (p .pipeline) (through noWindow (p .memory)) (laid (p .addressLog) a) (laid (p .cycleLog) y)
 
 -- the clocks are those of the core that the record's own settings choose
 unfoldable pub pipeBy : List ℕ → Pipeline → Memory → ℕ → List ℕ → List ℕ → PipeAnswer

@@ -5,14 +5,14 @@ use mathlib.Core.List.{List, [], _∷_, _++_}
 use Rattle.machine.specs.Types.{isBad}
 use Rattle.clocked.specs.Record.{Settings, Pipeline, Instruction, Decoded, Accessed, Codes, aok, Kinds}
 use Rattle.clocked.specs.Record.{StageD, bubbleD, inD, StageE, bubbleE, inE, StageM, bubbleM, inM, StageW, bubbleW, inW, Kept, noneKept, lastKept}
-use Rattle.machine.specs.Memory.{Memory, Registers, value}
+use Rattle.machine.specs.Memory.{Memory, through, Registers, value}
 use Rattle.machine.specs.Table.{is, ret}
 use Rattle.machine.specs.Fetch.{fetch, blameOf, noBlame}
-use Rattle.machine.specs.Stages.{decode, execute, access, newCodes, newMemory, newRegisters, resultTarget, loadedTarget, turned, sourceA}
+use Rattle.machine.specs.Stages.{decode, execute, access, newCodes, newMemory, newRegisters, resultTarget, loadedTarget, turned, straight, sourceA}
 use Rattle.clocked.specs.Prediction.{Core, predictedNext, mispredicted, meets, loadUse, takesLate}
 use Rattle.clocked.specs.Charges.{noKinds, counted, retiredOf, reasonFrom}
 
--- the record, its memory, and what has been logged of each retirement so far: its address and its cycle
+-- the record, its memory seen through the record's window, and what has been logged of each retirement so far: its address and its cycle
 pub record Piped : Type 0 where
   pub pipeline : Pipeline
   pub memory : Memory
@@ -41,7 +41,7 @@ pipeStart s r c a =
     }
 
 abbrev pub pipedOf : Pipeline → Memory → Piped
-pipedOf k m = record { pipeline = k; memory = m; addressLog = []; cycleLog = [] }
+pipedOf k m = record { pipeline = k; memory = through (k .settings .window) m; addressLog = []; cycleLog = [] }
 
 -- THE WORK OF A STAGE IN A CLOCK
 -- what E's instruction is after execution, on the codes as the clock began
@@ -142,6 +142,14 @@ badInW (inW w) = isBad (w .status)
 unfoldable pub fails : Piped → Bool
 fails p = badInW (afterM (p .pipeline .m) (p .memory))
 
+-- "a store that succeeds in M and writes any window byte cancels everything younger" (02, #113)
+unfoldable pub patchedInW : StageW → Bool
+patchedInW bubbleW = false
+patchedInW (inW w) = w .patched
+
+unfoldable pub cancels : Piped → Bool
+cancels p = patchedInW (afterM (p .pipeline .m) (p .memory))
+
 -- THE FETCH ADDRESS
 -- "else if W holds ret, the word it read; else the predicted one"
 unfoldable pub returnedTo : StageW → ℕ → ℕ
@@ -161,13 +169,21 @@ unfoldable pub fetchedNow : Core → Piped → Instruction
 fetchedNow g p = fetch (p .memory) (fetchAddress g p)
 
 -- CONTROLS AT THE END OF A CLOCK
--- F: held for load-use and for ret
+-- "fetch restarts at the instruction that follows the store (for call, its target)" (02, #113)
+unfoldable pub restart : StageM → ℕ → ℕ
+restart bubbleM f = f
+restart (inM x) f = straight (x .instruction)
+
+-- A cancelling store "goes before a misprediction, a load-use wait and the hold for a ret in the same clock".
+-- F: restarted behind such a store; held for load-use and for ret
 unfoldable pub nextF : Core → Piped → ℕ
-nextF g p = cond (waits g p || returns p) (p .pipeline .predicted) (predictedNext g (fetchedNow g p))
+nextF g p =
+    cond (cancels p) (restart (p .pipeline .m) (p .pipeline .predicted))
+    (cond (waits g p || returns p) (p .pipeline .predicted) (predictedNext g (fetchedNow g p)))
 
 -- D: a bubble for misprediction; held for load-use; a bubble for ret
 unfoldable pub nextD : Core → Piped → StageD
-nextD g p = cond (mispredicts g p) bubbleD (cond (waits g p) (p .pipeline .d) (cond (returns p) bubbleD (inD (fetchedNow g p))))
+nextD g p = cond (cancels p || mispredicts g p) bubbleD (cond (waits g p) (p .pipeline .d) (cond (returns p) bubbleD (inD (fetchedNow g p))))
 
 unfoldable pub decodedD : Core → Piped → StageD → StageE
 decodedD g p bubbleD = bubbleE
@@ -175,15 +191,16 @@ decodedD g p (inD i) = inE (decode i (source g p))
 
 -- E: a bubble for misprediction and for load-use
 unfoldable pub nextE : Core → Piped → StageE
-nextE g p = cond (mispredicts g p || waits g p) bubbleE (decodedD g p (p .pipeline .d))
+nextE g p = cond (cancels p || (mispredicts g p || waits g p)) bubbleE (decodedD g p (p .pipeline .d))
 
 -- M: "bad status in M, after its access: bubble into M."
 unfoldable pub nextM : Core → Piped → StageM
-nextM g p = cond (fails p) bubbleM (afterE (executing g p) (p .pipeline .codes))
+nextM g p = cond (cancels p || fails p) bubbleM (afterE (executing g p) (p .pipeline .codes))
 
--- "Then, or with bad status in W, OPq in E sets no codes." With bad status in W nothing below is done at all
+-- "Then, or with bad status in W, OPq in E sets no codes." With bad status in W nothing below is done at all.
+-- Of what is cancelled "codes are not set"
 unfoldable pub nextCodes : Core → Piped → Codes
-nextCodes g p = cond (fails p) (p .pipeline .codes) (codesAfter (executing g p) (p .pipeline .codes))
+nextCodes g p = cond (cancels p || fails p) (p .pipeline .codes) (codesAfter (executing g p) (p .pipeline .codes))
 
 -- RETIREMENT
 -- "An instruction retires in the clock in which it stands in W."

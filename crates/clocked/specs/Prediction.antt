@@ -2,7 +2,7 @@
 use Prim.Native.Nat.{ℕ}
 use mathlib.Core.Bool.{Bool, true, false, cond, not, _&&_, _||_, Bool·beq}
 use lib.Dec.{ltb, eqb}
-use Rattle.clocked.specs.Record.{Instruction, Settings}
+use Rattle.clocked.specs.Record.{Instruction, Settings, noWindow}
 use Rattle.machine.specs.Table.{is, jump}
 use Rattle.machine.specs.Stages.{sourceA, sourceB, loadedTarget, turned, straight}
 
@@ -21,7 +21,7 @@ coreOf s = record { guesses = rule (s .rule); late = s .late }
 
 -- document 01's own settings
 abbrev pub asIn01 : Settings
-asIn01 = record { rule = 0; late = false }
+asIn01 = record { rule = 0; late = false; window = noWindow }
 
 abbrev pub core01 : Core
 core01 = coreOf asIn01

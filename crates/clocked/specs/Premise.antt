@@ -3,6 +3,7 @@ use Prim.Native.Nat.{ℕ, _+_, _≤_, _<_}
 use mathlib.Core.Bool.{Bool, true, false, _&&_}
 use mathlib.Core.Path.{_≡_}
 use lib.Dec.{ltb, leb}
+use Rattle.machine.specs.Types.{isSet}
 use Rattle.machine.specs.Memory.{codeEnd, inside}
 use Rattle.machine.specs.Fetch.{sizeAt}
 use Rattle.machine.specs.Stages.{stores, accessAddress}
@@ -25,3 +26,7 @@ abbrev pub Untouched : Plain → ℕ → Type 0
 Untouched s K =
     (j n : ℕ) → j < n → n ≤ j + 3 → n < K → isStopped (steps s n) ≡ false
     → (x : ℕ) → writesByte (steps s j) x ≡ true → hasByte (steps s n) x ≡ true → ⊥
+
+-- what demand 3 asks of a start: "With a window set, demand 3 and #108 hold with no premise on stores. Without one, all stays." (02, #113)
+abbrev pub Premise : Plain → ℕ → Type 0
+Premise s K = isSet (s .memory .window) ≡ false → Untouched s K

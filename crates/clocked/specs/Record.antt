@@ -2,6 +2,8 @@
 pub use Rattle.machine.specs.declared.Status.{Status}
 pub use Rattle.machine.specs.declared.Status.the-variants.{Aok as aok, Hlt as hlt, Adr as adr, Ins as ins}
 pub use Rattle.machine.specs.declared.Codes.{Codes}
+pub use Rattle.machine.specs.declared.Window.{Window}
+pub use Rattle.machine.specs.declared.Window.the-variants.{NoWindow as noWindow, Within as within}
 pub use Rattle.machine.specs.declared.Machine.{Machine}
 pub use Rattle.machine.specs.declared.Instruction.{Instruction}
 pub use Rattle.machine.specs.declared.Decoded.{Decoded}
@@ -20,6 +22,6 @@ pub use Rattle.clocked.specs.declared.StageW.the-variants.{BubbleW as bu
 pub use Rattle.clocked.specs.declared.Kept.{Kept}
 pub use Rattle.clocked.specs.declared.Kept.the-variants.{NoneKept as noneKept, LastKept as lastKept}
 pub use Rattle.clocked.specs.declared.Reason.{Reason}
-pub use Rattle.clocked.specs.declared.Reason.the-variants.{Free as free, Waited as waited, WronglyGuessed as wronglyGuessed, Returned as returned}
+pub use Rattle.clocked.specs.declared.Reason.the-variants.{Free as free, Waited as waited, WronglyGuessed as wronglyGuessed, Returned as returned, Patched as patched}
 pub use Rattle.clocked.specs.declared.Kinds.{Kinds}
 pub use Rattle.clocked.specs.declared.Pipeline.{Pipeline}

@@ -7,20 +7,24 @@ use machine::Executed;
 use machine::Instruction;
 use machine::REGISTERS;
 use machine::Status;
+use machine::Window;
 
 // The most cycles that are not refused.
 pub const PIPE_LIMIT: u64 = 262145;
 
-// In what one core may differ from another: the number of the rule by which it predicts conditional jumps, and whether a store's data may come late.
+// In what one core may differ from another: the number of the rule by which it predicts conditional jumps, and whether a store's data may come late;
+// with them the code window.
 pub struct Settings {
     pub rule: u8,
     pub late: bool,
+    pub window: Window,
 }
 
 // What is kept of the last instruction retired with AOK, for its follower's charge.
 pub struct Retired {
     pub instruction: Instruction,
     pub holds: bool,
+    pub patched: bool,
 }
 
 // Each stage holds an instruction, or a bubble.
@@ -55,6 +59,7 @@ pub enum Reason {
     Waited,
     WronglyGuessed,
     Returned,
+    Patched,
 }
 
 // The cycles charged so far, by kind.
@@ -62,6 +67,7 @@ pub struct Kinds {
     pub loaduse: u64,
     pub mispredict: u64,
     pub returned: u64,
+    pub patched: u64,
 }
 
 // The pipelined engine's record: its settings, which stay; F is the predicted address alone; what a bad fetch that stopped it is blamed on comes last.

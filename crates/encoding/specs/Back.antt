@@ -13,7 +13,7 @@ use Rattle.machine.specs.declared.Instruction.{Instruction}
 use Rattle.machine.specs.declared.Status.the-variants.{Aok as aok, Hlt as hlt}
 use Rattle.machine.specs.declared.Fault.the-variants.{NoFault as noFault}
 use Rattle.machine.specs.Words.{sum, number}
-use Rattle.machine.specs.Memory.{lent, codeEnd}
+use Rattle.machine.specs.Memory.{lent, seenTo, codeEnd}
 use Rattle.machine.specs.Table.{Row, RegisterByte, noByte, bothNamed, onlyB, onlyA, table, rowOf}
 use Rattle.machine.specs.Fetch.{sizeAt, ownBytes, stopping, namesA, namesB, half, misnamed, checked, constantIn, parsed, fetch}
 use Rattle.laws.specs.Tests.{neither}
@@ -204,7 +204,7 @@ module _ (i : Fields) (valid : encodeRefused i ≡ false) (word : i .constant < 
 
   -- the bytes from an address on are the instruction's own
   own : (front rest : List ℕ) → ownBytes (lent (front ++ (form i ++ rest))) (length front) ≡ form i
-  unfolding ownBytes sizeAt codeEnd
+  unfolding ownBytes sizeAt seenTo codeEnd
   own front rest =
       let q : (16 * i .code + i .function) / 16 ≡ i .code = omega (arith, function-small i valid) in
       let s : sizeAt (lent (front ++ (form i ++ rest))) (length front) ≡ rowOf (i .code) .size = ap (λ (x : ℕ). rowOf (x / 16) .size) (first-byte front rest)

@@ -9,9 +9,10 @@ use borrow.Author.Tests.{eq-eqb, ne-eqb}
 use Rattle.machine.specs.declared.Fault.{Fault}
 use Rattle.machine.specs.declared.Fault.the-variants.{NoFault as noFault, FirstMissing as firstMissing, NoCode as noCode, NoFunction as noFunction}
 use Rattle.machine.specs.declared.Fault.the-variants.{LaterMissing as laterMissing, NoRegister as noRegister}
+use Rattle.machine.specs.declared.Window.{Window}
 use Rattle.machine.specs.declared.Instruction.{Instruction}
 use Rattle.machine.specs.Words.{sum}
-use Rattle.machine.specs.Memory.{Memory, lent, codeEnd}
+use Rattle.machine.specs.Memory.{Memory, lent, through, seenTo, codeEnd}
 use Rattle.machine.specs.Fetch.{faultAt, blameOf}
 
 module _ (m : Memory) (a : ℕ) (f : Fault) where
@@ -36,9 +37,9 @@ module _ (m : Memory) (a : ℕ) (f : Fault) where
   register-at r e s = cc
 
 -- the lowest missing address is where the bytes end
-pub later-at : (b : List ℕ) (a : ℕ) (f : Fault) → f ≡ laterMissing → length b ≡ faultAt (lent b) a f
+pub later-at : (w : Window) (b : List ℕ) (a : ℕ) (f : Fault) (n : ℕ) → f ≡ laterMissing → n ≡ seenTo w (length b) a → n ≡ faultAt (through w (lent b)) a f
 unfolding faultAt codeEnd
-later-at b a f e = cc
+later-at w b a f n e h = cc
 
 pub blamed : (m : Memory) (i : Instruction) (r : ℕ) → r ≡ faultAt m (i .address) (i .fault) → record { fault = i .fault; address = r } ≡ blameOf m i
 unfolding blameOf

@@ -2,19 +2,21 @@
 use mathlib.Core.Path.{_≡_, refl, ap, _∙_}
 use mathlib.Core.Bool.{Bool, true, false, cond, not, _||_}
 use mathlib.Core.List.{List}
-use Prim.Native.Nat.{ℕ, _+_, _-_, _/_, _%_, _≤_, _<_}
+use Prim.Native.Nat.{ℕ, _+_, _-_, _/_, _%_, _≤_, _<_, min}
 use native.Mathlib.Omega.{arith}
 use borrow.Author.Tests.{eq-eqb, ne-eqb, lt-ltb, le-ltb, le-leb, lt-leb, ltb-true, ltb-false, leb-true, leb-false, not-true, not-false}
 use lib.Dec.{T, eqb, ltb, leb}
 use lib.ListN.{length}
 use Rattle.machine.specs.declared.Status.the-variants.{Aok as aok, Hlt as hlt, Adr as adr, Ins as ins}
+use Rattle.machine.specs.declared.Window.{Window}
+use Rattle.machine.specs.declared.Window.the-variants.{NoWindow as noWindow, Within as within}
 use Rattle.machine.specs.declared.Instruction.{Instruction}
 use Rattle.machine.specs.declared.Fault.{Fault}
 use Rattle.machine.specs.declared.Fault.the-variants.{NoFault as noFault, FirstMissing as firstMissing, NoCode as noCode, NoFunction as noFunction}
 use Rattle.machine.specs.declared.Fault.the-variants.{LaterMissing as laterMissing, NoRegister as noRegister}
 use Rattle.machine.specs.declared.Blame.{Blame}
 use Rattle.machine.specs.Words.{sum, number}
-use Rattle.machine.specs.Memory.{Memory, lent, size, codeEnd, inside, load}
+use Rattle.machine.specs.Memory.{Memory, lent, through as seen, size, seenTo, codeEnd, inside, load}
 use Rattle.machine.specs.Table.{rowOf, RegisterByte, noByte, bothNamed, onlyB, onlyA}
 use Rattle.machine.specs.Fetch.{stopping, notInTable, namesA, namesB, misnamed, half, checked, fetch, blameOf}
 use Rattle.machine.specs.Runs.{sizeRefused, lowest, fetchAnswer}
@@ -67,11 +69,30 @@ second code h = omega (arith, length-rule code, two (rowOf code) (named (rowOf c
 pub room : (z l : ℕ) → not (leb z l) ≡ false → z ≤ l
 room z l h = leb-true z l (not-false (leb z l) h)
 
+-- WHERE THE BYTES END
+pub all-seen : (w : Window) (size a : ℕ) → w ≡ noWindow → size ≡ seenTo w size a
+unfolding seenTo
+all-seen w size a e = cc
+
+pub before-first : (w : Window) (size a first end n : ℕ) → w ≡ within first end → a < first → n ≡ min a size → n ≡ seenTo w size a
+unfolding seenTo
+before-first w size a first end n e h f = cc (lt-ltb a first h)
+
+pub to-the-end : (w : Window) (size a first end n : ℕ) → w ≡ within first end → first ≤ a → n ≡ min end size → n ≡ seenTo w size a
+unfolding seenTo
+to-the-end w size a first end n e h f = cc (le-ltb a first h)
+
 -- THE WAYS OUT
 -- n is where the bytes end that the instruction may have
-pub end-lent : (b : List ℕ) (a : ℕ) → length b ≡ codeEnd (lent b) a
+pub end-lent : (w : Window) (b : List ℕ) (a n : ℕ) → n ≡ seenTo w (length b) a → n ≡ codeEnd (seen w (lent b)) a
 unfolding codeEnd
-end-lent b a = refl
+end-lent w b a n e = e
+
+-- which is inside memory
+pub end-inside : (w : Window) (size a n : ℕ) → n ≡ seenTo w size a → n ≤ size
+unfolding seenTo
+end-inside noWindow size a n e = omega arith
+end-inside (within first end) size a n e = omega arith
 
 pub outside : (m : Memory) (a n : ℕ) (r : Instruction) → n ≡ codeEnd m a → n ≤ a → r ≡ stopping a adr firstMissing → r ≡ fetch m a
 unfolding checked aokAt

@@ -15,12 +15,13 @@ use machine::Instruction;
 use machine::NONE;
 use machine::NOP;
 use machine::Status;
+use machine::Window;
 ghost use mathlib.Core.Path.{_≡_};
 ghost use mathlib.Core.Bool.{cond};
-ghost use Prim.Native.Nat.{_+_, _-_, _≤_, _<_};
+ghost use Prim.Native.Nat.{_+_, _-_, _≤_, _<_, min};
 ghost use lib.Dec.{eqb, ltb};
 ghost use lib.ListN.{length, getD};
-ghost use Rattle.machine.specs.Memory.{lent};
+ghost use Rattle.machine.specs.Memory.{lent, through, seenTo};
 ghost use Rattle.machine.specs.Words.{number};
 ghost use Rattle.machine.specs.declared.Fault.the-variants.{NoCode as noCode, NoFunction as noFunction};
 ghost use Rattle.machine.specs.Fetch.{fetch as fetchOf, stopping as stoppingOf, faultAt, blameOf};
@@ -104,11 +105,33 @@ fn constant_of(memory: &[u8], at: usize, size: u8) -> u64
     }
 }
 
-// For the engines, which have tested the size of memory.
-pub fn instruction_at(memory: &[u8], address: u64) -> Instruction
-    ensures { λ r. ⌜ r ≡ fetchOf (lent (now (memory .entry))) address ⌝ }
+fn lesser(a: u64, b: u64) -> u64
+    ensures { λ r. ⌜ r ≡ min a b ⌝ }
 {
-    let n = memory.len() as u64;
+    if a < b { a } else { b }
+}
+
+// Where the bytes end that an instruction at this address may have, in memory of that size.
+pub fn code_end(window: Window, size: u64, address: u64) -> u64
+    ensures { λ r. ⌜ r ≡ seenTo window size address ⌝ }
+{
+    match window {
+        Window::NoWindow => size,
+        Window::Within(first, end) => {
+            if address < first {
+                lesser(address, size)
+            } else {
+                lesser(end, size)
+            }
+        }
+    }
+}
+
+// For the engines, which have tested the size of memory.
+pub fn instruction_at(window: Window, memory: &[u8], address: u64) -> Instruction
+    ensures { λ r. ⌜ r ≡ fetchOf (through window (lent (now (memory .entry)))) address ⌝ }
+{
+    let n = code_end(window, memory.len() as u64, address);
     if n <= address {
         return stopping(address, Status::Adr, Fault::FirstMissing);
     }
@@ -151,27 +174,27 @@ pub fn instruction_at(memory: &[u8], address: u64) -> Instruction
 }
 
 // The byte at fault: the lowest missing address, the first byte, or the register byte.
-fn fault_at(memory: &[u8], address: u64, fault: Fault) -> u64
-    ensures { λ r. ⌜ r ≡ faultAt (lent (now (memory .entry))) address fault ⌝ }
+fn fault_at(window: Window, memory: &[u8], address: u64, fault: Fault) -> u64
+    ensures { λ r. ⌜ r ≡ faultAt (through window (lent (now (memory .entry)))) address fault ⌝ }
 {
     match fault {
         Fault::NoFault => 0,
         Fault::FirstMissing => address,
         Fault::NoCode => address,
         Fault::NoFunction => address,
-        Fault::LaterMissing => memory.len() as u64,
+        Fault::LaterMissing => code_end(window, memory.len() as u64, address),
         Fault::NoRegister => word::sum(address, 1),
     }
 }
 
 // What a bad fetch is blamed on, worked out where it stops: only the reason travels with the instruction.
-pub fn blame_of(memory: &[u8], i: Instruction) -> Blame
-    ensures { λ r. ⌜ r ≡ blameOf (lent (now (memory .entry))) i ⌝ }
+pub fn blame_of(window: Window, memory: &[u8], i: Instruction) -> Blame
+    ensures { λ r. ⌜ r ≡ blameOf (through window (lent (now (memory .entry)))) i ⌝ }
 {
     let fault = i.fault;
     Blame {
         fault,
-        address: fault_at(memory, i.address, fault),
+        address: fault_at(window, memory, i.address, fault),
     }
 }
 
@@ -184,13 +207,13 @@ pub fn fetch(memory: &[u8], address: u64) -> FetchAnswer
         return FetchAnswer {
             number: 1,
             instruction: missing,
-            blame: blame_of(memory, missing),
+            blame: blame_of(Window::NoWindow, memory, missing),
         };
     }
-    let instruction = instruction_at(memory, address);
+    let instruction = instruction_at(Window::NoWindow, memory, address);
     FetchAnswer {
         number: 0,
         instruction,
-        blame: blame_of(memory, instruction),
+        blame: blame_of(Window::NoWindow, memory, instruction),
     }
 }

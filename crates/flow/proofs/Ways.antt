@@ -15,7 +15,7 @@ use Rattle.clocked.specs.declared.StageW.{StageW}
 use Rattle.machine.specs.Memory.{Memory, Registers}
 use Rattle.machine.specs.Fetch.{fetch}
 use Rattle.clocked.specs.Prediction.{Core, predictedNext, meets}
-use Rattle.clocked.specs.Pipeline.{afterE, afterM, handed, codesAfter, registersAfter, wrong, retInD, retInE, retInM, badInW, returnedTo}
+use Rattle.clocked.specs.Pipeline.{afterE, afterM, handed, codesAfter, registersAfter, wrong, retInD, retInE, retInM, badInW, patchedInW, returnedTo, restart}
 use Rattle.clock_laws.specs.Late.{codes-handed}
 use Rattle.stage.specs.Addresses.{mendedBy, mended-by}
 use Rattle.stage.specs.declared.forwarding.Targets.{Targets}
@@ -37,11 +37,11 @@ fetched-is : (g : Core) (b : Bool) (m : StageM) (w : StageW) (f : ℕ) (bytes : 
 unfolding fetchedIn
 fetched-is g b m w f bytes i p q = cc (mended-by g m (returnedTo w f))
 
-pub signals-are : (g : Core) (s : Sources) (t : Targets) (d : StageD) (e : StageE) (m x : StageM) (y : StageW) (r : ℕ) (a b c f : Bool)
-    → r ≡ awaitedBy g d (s .a) → a ≡ (meets (t .loaded) r || meets (t .loaded) (s .b)) → b ≡ wrong g x → c ≡ (retInD d || (retInE e || retInM m)) → f ≡ badInW y
-    → record { waits = a; mispredicts = b; returns = c; fails = f } ≡ signalsBy g s t d e m x y
+pub signals-are : (g : Core) (s : Sources) (t : Targets) (d : StageD) (e : StageE) (m x : StageM) (y : StageW) (r : ℕ) (a b c f v : Bool)
+    → r ≡ awaitedBy g d (s .a) → a ≡ (meets (t .loaded) r || meets (t .loaded) (s .b)) → b ≡ wrong g x → c ≡ (retInD d || (retInE e || retInM m)) → f ≡ badInW y → v ≡ patchedInW y
+    → record { waits = a; mispredicts = b; returns = c; fails = f; cancels = v } ≡ signalsBy g s t d e m x y
 unfolding signalsBy signalsWith
-signals-are g s t d e m x y r a b c f o p q u v = cc
+signals-are g s t d e m x y r a b c f v o p q u h k = cc
 
 -- with D's sources and the targets of what stood in E, the code's signals are document 01's
 signals-same : (g : Core) (d : StageD) (e : StageE) (k : Codes) (m : StageM) (y : StageW)
@@ -97,15 +97,15 @@ module _ (g : Core) (f : Flow) (r : Registers) (bytes : Memory) {x : StageM} {y 
   fetched : i ≡ fetchedIn g (f .m) (f .w) (f .predicted) bytes
   fetched = fetched-is g (f .ahead .wrong) (f .m) (f .w) (f .predicted) bytes i (wrong-carried g (f .ahead) (f .m) (f .w) h) ei
 
-  wrongly : (s .mispredicts && not (s .fails)) ≡ wrong g (cond (s .fails) bubbleM x)
+  wrongly : (s .mispredicts && not (s .cancels || s .fails)) ≡ wrong g (cond (s .cancels || s .fails) bubbleM x)
   unfolding signalsBy signalsWith
-  wrongly = wrong-of g (s .fails) (s .mispredicts) x (cc)
+  wrongly = wrong-of g (s .cancels || s .fails) (s .mispredicts) x (cc)
 
   pub flow-is : {p : ℕ} {d : StageD} {e : StageE} {m : StageM} {k : Codes} {u : Targets}
-      → p ≡ cond (s .waits || s .returns) (f .predicted) (predictedNext g i)
-      → d ≡ cond (s .mispredicts) bubbleD (cond (s .waits) (f .d) (cond (s .returns) bubbleD (inD i)))
-      → e ≡ cond (s .mispredicts || s .waits) bubbleE z → m ≡ cond (s .fails) bubbleM x → k ≡ cond (s .fails) (f .codes) (codesAfter (f .e) (f .codes))
-      → u ≡ cond (s .fails) noTargets t
+      → p ≡ cond (s .cancels) (restart (f .m) (f .predicted)) (cond (s .waits || s .returns) (f .predicted) (predictedNext g i))
+      → d ≡ cond (s .cancels || s .mispredicts) bubbleD (cond (s .waits) (f .d) (cond (s .returns) bubbleD (inD i)))
+      → e ≡ cond (s .cancels || (s .mispredicts || s .waits)) bubbleE z → m ≡ cond (s .cancels || s .fails) bubbleM x
+      → k ≡ cond (s .cancels || s .fails) (f .codes) (codesAfter (f .e) (f .codes)) → u ≡ cond (s .cancels || s .fails) noTargets t
       → record {
         predicted = p;
         d = d;
@@ -113,8 +113,8 @@ module _ (g : Core) (f : Flow) (r : Registers) (bytes : Memory) {x : StageM} {y 
         m = m;
         w = y;
         codes = k;
-        ahead = record { m = u; w = f .ahead .m; wrong = s .mispredicts && not (s .fails) };
+        ahead = record { m = u; w = f .ahead .m; wrong = s .mispredicts && not (s .cancels || s .fails) };
       } ≡ flowAfter g f r bytes
   unfolding flowAfter shiftedOf aheadOf
   flow-is ep ed ee em ek eu =
-      cc (m-carried g (f .ahead) (f .m) (f .w) h y bytes ey, fetched, signals, targets-of (s .fails) x, wrongly, codes-handed g y (f .e) (f .codes))
+      cc (m-carried g (f .ahead) (f .m) (f .w) h y bytes ey, fetched, signals, targets-of (s .cancels || s .fails) x, wrongly, codes-handed g y (f .e) (f .codes))

@@ -14,7 +14,7 @@ use Rattle.machine.specs.Fetch.{fetch}
 use Rattle.machine.specs.Stages.{decode}
 use Rattle.clocked.specs.Prediction.{Core, predictedNext, meets}
 use Rattle.clocked.specs.Pipeline.{afterE, afterM, handed, codesAfter, pastResult, pastBoth, waitsBehind, wrong, retInD, retInE, retInM, badInW}
-use Rattle.clocked.specs.Pipeline.{returnedTo, mended}
+use Rattle.clocked.specs.Pipeline.{patchedInW, returnedTo, mended, restart}
 use Rattle.stage.specs.declared.forwarding.Targets.{Targets}
 use Rattle.stage.specs.declared.forwarding.Sources.{Sources}
 use Rattle.stage.specs.Forwarding.{targetsM, targetsW, awaitedBy}
@@ -28,9 +28,9 @@ aheadOf g m w = record { m = targetsM m; w = targetsW w; wrong = wrong g m }
 
 -- b says that D waits
 unfoldable pub signalsWith : Core → Bool → StageD → StageE → StageM → StageM → StageW → Signals
-signalsWith g b d e m x y = record { waits = b; mispredicts = wrong g x; returns = retInD d || (retInE e || retInM m); fails = badInW y }
+signalsWith g b d e m x y = record { waits = b; mispredicts = wrong g x; returns = retInD d || (retInE e || retInM m); fails = badInW y; cancels = patchedInW y }
 
--- document 01's four signals
+-- document 01's four signals, and that of #113
 unfoldable pub signalsOf : Core → StageD → StageE → StageM → StageM → StageW → Signals
 signalsOf g d e m x y = signalsWith g (waitsBehind g e d) d e m x y
 
@@ -54,14 +54,14 @@ decodedIn (inD i) x y w r = inE (decode i (sourceIn x y w r))
 -- the controls at the end of a clock, on the signals s, with i fetched and z decoded
 unfoldable pub shiftedOf : Core → Flow → Signals → StageM → StageW → Instruction → StageE → Flow
 shiftedOf g f s x y i z =
-    let m = cond (s .fails) bubbleM x in
+    let m = cond (s .cancels || s .fails) bubbleM x in
     record {
-      predicted = cond (s .waits || s .returns) (f .predicted) (predictedNext g i);
-      d = cond (s .mispredicts) bubbleD (cond (s .waits) (f .d) (cond (s .returns) bubbleD (inD i)));
-      e = cond (s .mispredicts || s .waits) bubbleE z;
+      predicted = cond (s .cancels) (restart (f .m) (f .predicted)) (cond (s .waits || s .returns) (f .predicted) (predictedNext g i));
+      d = cond (s .cancels || s .mispredicts) bubbleD (cond (s .waits) (f .d) (cond (s .returns) bubbleD (inD i)));
+      e = cond (s .cancels || (s .mispredicts || s .waits)) bubbleE z;
       m = m;
       w = y;
-      codes = cond (s .fails) (f .codes) (codesAfter (handed g y (f .e)) (f .codes));
+      codes = cond (s .cancels || s .fails) (f .codes) (codesAfter (handed g y (f .e)) (f .codes));
       ahead = aheadOf g m y;
     }
 

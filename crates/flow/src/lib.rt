@@ -8,6 +8,7 @@ use fetching::instruction_at;
 use machine::Codes;
 use machine::Instruction;
 use machine::REGISTERS;
+use machine::Window;
 use stage::addresses::fetch_address;
 use stage::controls::next_codes;
 use stage::controls::next_d;
@@ -23,6 +24,7 @@ use stage::forwarding::sources_d;
 use stage::forwarding::targets_m;
 use stage::signals::bad_in_w;
 use stage::signals::meets_either;
+use stage::signals::patched_in_w;
 use stage::signals::ret_on_the_way;
 use stage::signals::wrong;
 use stage::working::after_e;
@@ -30,7 +32,7 @@ use stage::working::after_m;
 use stage::working::registers_after;
 ghost use mathlib.Core.Path.{_≡_};
 ghost use lib.ListN.{length};
-ghost use Rattle.machine.specs.Memory.{lent};
+ghost use Rattle.machine.specs.Memory.{lent, through};
 ghost use Rattle.machine.specs.Fetch.{fetch as fetchOf};
 ghost use Rattle.clocked.specs.Prediction.{coreOf};
 ghost use Rattle.clocked.specs.Pipeline.{memoryAfter, registersAfter, returnedTo};
@@ -62,6 +64,7 @@ pub struct Signals {
     pub mispredicts: bool,
     pub returns: bool,
     pub fails: bool,
+    pub cancels: bool,
 }
 
 fn signals_now(
@@ -81,14 +84,22 @@ fn signals_now(
         mispredicts: wrong(settings, executed),
         returns: ret_on_the_way(d, e, m),
         fails: bad_in_w(accessed),
+        cancels: patched_in_w(accessed),
     }
 }
 
 // What is fetched; wrong says that the jump in M was guessed wrongly.
-fn fetch_now(wrong: bool, m: StageM, w: StageW, predicted: u64, memory: &[u8]) -> Instruction
-    ensures { λ r. ⌜ r ≡ fetchOf (lent (now (memory .entry))) (mendedBy wrong m (returnedTo w predicted)) ⌝ }
+fn fetch_now(
+    window: Window,
+    wrong: bool,
+    m: StageM,
+    w: StageW,
+    predicted: u64,
+    memory: &[u8],
+) -> Instruction
+    ensures { λ r. ⌜ r ≡ fetchOf (through window (lent (now (memory .entry)))) (mendedBy wrong m (returnedTo w predicted)) ⌝ }
 {
-    instruction_at(memory, fetch_address(wrong, m, w, predicted))
+    instruction_at(window, memory, fetch_address(wrong, m, w, predicted))
 }
 
 // W writes its registers before decode reads them, so that nothing of W's has to be forwarded.
@@ -120,9 +131,9 @@ pub fn advance(
     memory: &mut [u8],
 ) -> Flow
     requires { ⌜ (length (now registers) ≡ 15) × (flow .ahead ≡ aheadOf (coreOf settings) (flow .m) (flow .w)) ⌝ }
-    ensures { λ r. ⌜ (r ≡ flowAfter (coreOf settings) flow (now (registers .entry)) (lent (now (memory .entry))))
+    ensures { λ r. ⌜ (r ≡ flowAfter (coreOf settings) flow (now (registers .entry)) (through (settings .window) (lent (now (memory .entry)))))
         × (now (registers .exit) ≡ registersAfter (flow .w) (now (registers .entry)))
-        × (lent (now (memory .exit)) ≡ memoryAfter (flow .m) (lent (now (memory .entry)))) ⌝ }
+        × (through (settings .window) (lent (now (memory .exit))) ≡ memoryAfter (flow .m) (through (settings .window) (lent (now (memory .entry))))) ⌝ }
 {
     let d = flow.d;
     let e = flow.e;
@@ -131,25 +142,28 @@ pub fn advance(
     let codes = flow.codes;
     let ahead = flow.ahead;
     let in_m = ahead.m;
-    let fetched = fetch_now(ahead.wrong, m, w, flow.predicted, memory);
-    let accessed = after_m(m, memory);
+    let window = settings.window;
+    let fetched = fetch_now(window, ahead.wrong, m, w, flow.predicted, memory);
+    let accessed = after_m(window, m, memory);
     let executed = after_e(settings, accessed, e, codes);
     let targets = targets_m(executed);
     let sources = sources_d(d);
     let decoded = write_and_decode(d, sources, targets, executed, accessed, w, ahead, registers);
     let s = signals_now(settings, sources, targets, d, e, m, executed, accessed);
+    let emptied = s.cancels | s.fails;
     let carried = Ahead {
-        m: next_targets(s.fails, targets),
+        m: next_targets(emptied, targets),
         w: in_m,
-        wrong: s.mispredicts & !s.fails,
+        wrong: s.mispredicts & !emptied,
     };
+    let held = s.waits | s.returns;
     Flow {
-        predicted: next_f(settings, s.waits | s.returns, flow.predicted, fetched),
-        d: next_d(s.mispredicts, s.waits, s.returns, d, fetched),
-        e: next_e(s.mispredicts | s.waits, decoded),
-        m: next_m(s.fails, executed),
+        predicted: next_f(settings, s.cancels, m, held, flow.predicted, fetched),
+        d: next_d(s.cancels | s.mispredicts, s.waits, s.returns, d, fetched),
+        e: next_e(s.cancels | (s.mispredicts | s.waits), decoded),
+        m: next_m(emptied, executed),
         w: accessed,
-        codes: next_codes(s.fails, e, codes),
+        codes: next_codes(emptied, e, codes),
         ahead: carried,
     }
 }

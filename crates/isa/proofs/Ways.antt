@@ -3,17 +3,19 @@ use mathlib.Core.Path.{_≡_, refl, sym, ap}
 use mathlib.Core.Bool.{Bool, true, false, cond, not, _&&_, _||_, Bool·beq}
 use mathlib.Core.List.{List, [], _∷_}
 use mathlib.Core.Logic.{_⊎_, inl, inr}
-use Prim.Native.Nat.{ℕ, zero, suc, _≤_}
+use Prim.Native.Nat.{ℕ, zero, suc, _+_, _-_, _≤_, _<_}
 use native.Mathlib.Omega.{arith}
 use lib.Bits.{bitAnd, bitXor}
-use lib.Dec.{eqb}
+use lib.Dec.{ltb, eqb}
 use lib.ListN.{getD, length, List·getD-eq-default}
 use lib.IntN.{pos, _+ℤ_, _-ℤ_}
 use mir.Syntax.{w64}
 use lib.Signed.{ltZ}
-use borrow.Author.Tests.{eq-eqb, ne-eqb}
+use borrow.Author.Tests.{eq-eqb, ne-eqb, lt-ltb, le-ltb, ltb-true, ltb-false}
 use Rattle.machine.specs.declared.Status.{Status}
 use Rattle.machine.specs.declared.Status.the-variants.{Adr as adr}
+use Rattle.machine.specs.declared.Window.{Window}
+use Rattle.machine.specs.declared.Window.the-variants.{NoWindow as noWindow, Within as within}
 use Rattle.machine.specs.declared.Codes.{Codes}
 use Rattle.machine.specs.declared.Instruction.{Instruction}
 use Rattle.machine.specs.declared.Decoded.{Decoded}
@@ -21,11 +23,12 @@ use Rattle.machine.specs.declared.Executed.{Executed}
 use Rattle.machine.specs.declared.Accessed.{Accessed}
 use Rattle.machine.specs.Types.{isBad}
 use Rattle.machine.specs.Words.{sum, difference, signed, outside}
-use Rattle.machine.specs.Memory.{Memory, inside, load, store}
+use Rattle.machine.specs.Memory.{Memory, through, inside, load, store}
 use Rattle.machine.specs.Table.{rowOf, table, is, Accesses}
 use Rattle.machine.specs.Stages.{sourceA, sourceB, resultTarget, loadedTarget}
 use Rattle.machine.specs.Stages.{operated, overflows, operatedCodes, codesBy, newCodes, condition, result, outcome, execute}
-use Rattle.machine.specs.Stages.{loading, storing, loads, stores, accessAddress, storedWord, accessStatus, access, newMemory, turned, straight, nextAddress}
+use Rattle.machine.specs.Stages.{loading, storing, loads, stores, accessAddress, storedWord, accessStatus, meetsWindow, patches, access, newMemory, turned, straight, nextAddress}
+use Rattle.laws.specs.Window.{written-through}
 use Rattle.lookup.specs.Numbers.{whichNumber, computesNumber}
 use Rattle.isa.specs.Decisions.{accessKind, accessedWith, registerBy, computedBy}
 use Rattle.isa.proofs.Entries.{register-by, computed-by, none-set, loads-by, stores-by, loads-or-stores, accesses-by, addressed-by, stored-by}
@@ -176,11 +179,37 @@ pub no-word : (x : Executed) (m : Memory) (k : ℕ) → k ≡ accessKind x → (
 unfolding loads
 no-word x m k q h = cc (loads-by (rowOf (x .instruction .code) .accesses))
 
-pub accessed-is : (x : Executed) (m : Memory) (v : ℕ) (s : Status) (y : Accessed) → v ≡ cond (loads (x .instruction)) (load m (accessAddress x)) 0
-    → s ≡ accessStatus x m
-    → y ≡ accessedWith x v s → y ≡ access x m
-unfolding access accessedWith
-accessed-is x m v s y e f p = cc
+-- a word at a reaches into a window that begins at first
+pub begins-before : (a first : ℕ) → first < a → true ≡ ltb first (a + 8)
+begins-before a first h = sym (lt-ltb first (a + 8) (omega arith))
+
+pub begins-within : (a first : ℕ) → a ≤ first → ltb (first - a) 8 ≡ ltb first (a + 8)
+begins-within a first h = go (ltb first (a + 8)) refl
+  where
+    go : (b : Bool) → ltb first (a + 8) ≡ b → ltb (first - a) 8 ≡ ltb first (a + 8)
+    go true e = cc (lt-ltb (first - a) 8 (omega (arith, ltb-true first (a + 8) e)))
+    go false e = cc (le-ltb (first - a) 8 (omega (arith, ltb-false first (a + 8) e)))
+
+pub window-met : (w : Window) (first end a : ℕ) (b : Bool) → w ≡ within first end → b ≡ ltb first (a + 8)
+    → (ltb first end && (ltb a end && b)) ≡ meetsWindow w a
+unfolding meetsWindow
+window-met w first end a b e f = cc
+
+pub no-window-met : (w : Window) (a : ℕ) → w ≡ noWindow → false ≡ meetsWindow w a
+unfolding meetsWindow
+no-window-met w a e = cc
+
+pub patched-is : (x : Executed) (s : Status) (w : Window) (k a : ℕ) (b c : Bool) → k ≡ accessKind x → a ≡ accessAddress x → b ≡ isBad s → c ≡ meetsWindow w a
+    → ((eqb k 3 || eqb k 4) && (not b && c)) ≡ (stores (x .instruction) && (not (isBad s) && meetsWindow w (accessAddress x)))
+unfolding stores
+patched-is x s w k a b c q e f h = cc (stores-by (rowOf (x .instruction .code) .accesses))
+
+pub accessed-is : (x : Executed) (m : Memory) (w : Window) (v : ℕ) (s : Status) (b : Bool) (y : Accessed)
+    → v ≡ cond (loads (x .instruction)) (load m (accessAddress x)) 0 → s ≡ accessStatus x m
+    → b ≡ (stores (x .instruction) && (not (isBad s) && meetsWindow w (accessAddress x)))
+    → y ≡ accessedWith x v s b → y ≡ access x (through w m)
+unfolding access patches accessStatus load inside accessedWith
+accessed-is x m w v s b y e f h p = cc
 
 pub updated : (x : Executed) (m m′ : Memory) (k a v : ℕ) → k ≡ accessKind x → (eqb k 3 || eqb k 4) ≡ true → a ≡ accessAddress x → v ≡ storedWord x
     → m′ ≡ store m a v → m′ ≡ newMemory x m
@@ -196,6 +225,10 @@ both-same : {A : Type 0} (b : Bool) (v : A) → cond b v v ≡ v
 both-same true v = refl
 both-same false v = refl
 
+and-false : (b : Bool) → b && false ≡ false
+and-false true = refl
+and-false false = refl
+
 load-outside : (m : Memory) (a : ℕ) → inside m a ≡ false → load m a ≡ 0
 unfolding load
 load-outside m a h = cc
@@ -204,32 +237,47 @@ store-outside : (m : Memory) (a v : ℕ) → inside m a ≡ false → store m a 
 unfolding store
 store-outside m a v h = cc
 
-module _ (x : Executed) (m : Memory) (k : ℕ) (q : k ≡ accessKind x) (y : Accessed) where
+-- what is accessed and then written is so whatever the window
+seen : (x : Executed) (m : Memory) (w : Window) (y : Accessed) (v : ℕ) (s : Status) (b : Bool) → y ≡ accessedWith x v s b
+    → v ≡ access x m .word → s ≡ access x m .status → b ≡ (stores (x .instruction) && (not (isBad s) && meetsWindow w (accessAddress x)))
+    → y ≡ access x (through w m)
+unfolding access
+seen x m w y v s b e p q h = accessed-is x m w v s b y p q h e
+
+module _ (x : Executed) (m : Memory) (w : Window) (k : ℕ) (q : k ≡ accessKind x) (y : Accessed) where
   abbrev row : Accesses
   row = rowOf (x .instruction .code) .accesses
 
-  pub without-access : k ≡ 0 → y ≡ accessedWith x 0 (x .instruction .status) → (y ≡ access x m) × (m ≡ newMemory x m)
-  unfolding access accessedWith accessStatus loads stores newMemory
-  without-access h e = (cc (loads-by row, stores-by row), cc (stores-by row))
+  pub without-access : k ≡ 0 → y ≡ accessedWith x 0 (x .instruction .status) false → (y ≡ access x (through w m)) × (through w m ≡ newMemory x (through w m))
+  unfolding access accessStatus loads stores newMemory
+  without-access h e = (
+    seen x m w y 0 _ false e (cc (loads-by row)) (cc (loads-by row, stores-by row)) (cc (stores-by row)),
+    written-through w x m m (cc (stores-by row)),
+  )
 
   module _ (some : k ≡ 0 → ⊥) (a : ℕ) (ea : a ≡ accessAddress x) (n : Bool) (en : n ≡ inside m a) where
-    pub outside-memory : n ≡ false → y ≡ accessedWith x 0 adr → (y ≡ access x m) × (m ≡ newMemory x m)
-    unfolding access accessedWith accessStatus loads stores newMemory
+    pub outside-memory : n ≡ false → y ≡ accessedWith x 0 adr false → (y ≡ access x (through w m)) × (through w m ≡ newMemory x (through w m))
+    unfolding access accessStatus loads stores newMemory isBad
     outside-memory h e = (
-      cc (accesses-by row, ne-eqb k 0 some, load-outside m a (cc), both-same {A = ℕ} (loading row) 0),
-      cc (store-outside m a (storedWord x) (cc), both-same (storing row) m),
+      seen x m w y 0 adr false e (cc (load-outside m a (cc), both-same {A = ℕ} (loading row) 0)) (cc (accesses-by row, ne-eqb k 0 some))
+          (sym (and-false (storing row))),
+      written-through w x m m (cc (store-outside m a (storedWord x) (cc), both-same (storing row) m)),
     )
 
     module _ (h : n ≡ true) where
-      pub loaded-inside : (v : ℕ) → (eqb k 1 || eqb k 2) ≡ true → v ≡ load m a → y ≡ accessedWith x v (x .instruction .status)
-          → (y ≡ access x m) × (m ≡ newMemory x m)
-      unfolding access accessedWith accessStatus loads stores newMemory
-      loaded-inside v t p e = (cc (loads-by row), cc (loads-or-stores row (cc (loads-by row))))
+      pub loaded-inside : (v : ℕ) → (eqb k 1 || eqb k 2) ≡ true → v ≡ load m a → y ≡ accessedWith x v (x .instruction .status) false
+          → (y ≡ access x (through w m)) × (through w m ≡ newMemory x (through w m))
+      unfolding access accessStatus loads stores newMemory
+      loaded-inside v t p e = (
+        seen x m w y v _ false e (cc (loads-by row)) (cc (loads-by row)) (cc (loads-or-stores row (cc (loads-by row)))),
+        written-through w x m m (cc (loads-or-stores row (cc (loads-by row)))),
+      )
 
-      pub stored-inside : (v : ℕ) (m′ : Memory) → (eqb k 1 || eqb k 2) ≡ false → v ≡ storedWord x → m′ ≡ store m a v
-          → y ≡ accessedWith x 0 (x .instruction .status) → (y ≡ access x m) × (m′ ≡ newMemory x m)
-      unfolding access accessedWith accessStatus loads stores newMemory
-      stored-inside v m′ t p f e = (
-        cc (loads-by row, accesses-by row, ne-eqb k 0 some),
-        cc (loads-by row, accesses-by row, ne-eqb k 0 some),
+      pub stored-inside : (v : ℕ) (m′ : Memory) (b c : Bool) → (eqb k 1 || eqb k 2) ≡ false → v ≡ storedWord x → m′ ≡ store m a v
+          → b ≡ isBad (x .instruction .status) → c ≡ meetsWindow w a
+          → y ≡ accessedWith x 0 (x .instruction .status) (not b && c) → (y ≡ access x (through w m)) × (through w m′ ≡ newMemory x (through w m))
+      unfolding access accessStatus loads stores newMemory
+      stored-inside v m′ b c t p f bad met e = (
+        seen x m w y 0 _ (not b && c) e (cc (loads-by row)) (cc (loads-by row, accesses-by row, ne-eqb k 0 some)) (cc (loads-by row, accesses-by row, ne-eqb k 0 some)),
+        written-through w x m m′ (cc (loads-by row, accesses-by row, ne-eqb k 0 some)),
       )

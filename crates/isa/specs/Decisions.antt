@@ -1,6 +1,6 @@
 -- What the code does with a number by which its tables name an entry of a row.
 use Prim.Native.Nat.{ℕ}
-use mathlib.Core.Bool.{cond}
+use mathlib.Core.Bool.{Bool, cond}
 use lib.Dec.{eqb}
 use Rattle.machine.specs.declared.Instruction.{Instruction}
 use Rattle.machine.specs.declared.Decoded.{Decoded}
@@ -16,9 +16,9 @@ use Rattle.lookup.specs.Numbers.{accessesNumber}
 abbrev pub accessKind : Executed → ℕ
 accessKind x = accessesNumber (rowOf (x .instruction .code) .accesses)
 
--- an executed instruction after its access, with the word v loaded and the status s
-unfoldable pub accessedWith : Executed → ℕ → Status → Accessed
-accessedWith x v s = record { instruction = x .instruction; result = x .result; holds = x .holds; word = v; status = s }
+-- an executed instruction after its access, with the word v loaded and the status s; b says that it wrote into the window
+unfoldable pub accessedWith : Executed → ℕ → Status → Bool → Accessed
+accessedWith x v s b = record { instruction = x .instruction; result = x .result; holds = x .holds; word = v; status = s; patched = b }
 
 -- the register that a number names, 15 for none
 unfoldable pub registerBy : ℕ → Instruction → ℕ

@@ -1,3 +1,4 @@
 pub mod Memory
 pub mod Status
 pub mod Tests
+pub mod Window

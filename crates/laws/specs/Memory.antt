@@ -2,14 +2,14 @@
 use Prim.Native.Nat.{ℕ, zero, suc, _+_, _/_, _%_, _≤_}
 use mathlib.Core.Bool.{Bool, true, false, cond, _&&_}
 use mathlib.Core.List.{List}
-use mathlib.Core.Path.{_≡_, refl, _∙_}
+use mathlib.Core.Path.{_≡_, refl, ap, _∙_}
 use native.Mathlib.Omega.{arith}
 use borrow.Author.Tests.{ltb-false, le-leb}
 use lib.Dec.{ltb, leb}
 use lib.ListN.{length, getD, set, length-set}
 use lib.Seq.{getD-set-other}
 use Rattle.machine.specs.Words.{placed}
-use Rattle.machine.specs.Memory.{Memory, lent, size, codeEnd, inside, store}
+use Rattle.machine.specs.Memory.{Memory, holding, size, seenTo, codeEnd, inside, store}
 
 pub length-placed : (k : ℕ) (b : List ℕ) (a v : ℕ) → length (placed k b a v) ≡ length b
 unfolding placed
@@ -29,21 +29,30 @@ module _ (m : Memory) (a v : ℕ) where
   unfolding store
   size-stored = go (inside m a)
     where
-      go : (c : Bool) → size (cond c (lent (placed 8 (m .bytes) a v)) m) ≡ size m
+      go : (c : Bool) → size (cond c (holding m (placed 8 (m .bytes) a v)) m) ≡ size m
       go true = length-placed 8 (m .bytes) a v
+      go false = refl
+
+  -- and the window
+  pub window-stored : store m a v .window ≡ m .window
+  unfolding store
+  window-stored = go (inside m a)
+    where
+      go : (c : Bool) → cond c (holding m (placed 8 (m .bytes) a v)) m .window ≡ m .window
+      go true = refl
       go false = refl
 
   -- and where an instruction's bytes end
   pub code-end-stored : (b : ℕ) → codeEnd (store m a v) b ≡ codeEnd m b
   unfolding codeEnd
-  code-end-stored b = size-stored
+  code-end-stored b = ap (λ n. seenTo (store m a v .window) n b) size-stored ∙ ap (λ w. seenTo w (size m) b) window-stored
 
   -- and each byte that is none of its eight
   pub byte-stored : (x : ℕ) → (inside m a && (leb a x && ltb x (a + 8)) ≡ true → ⊥) → getD (store m a v .bytes) x 0 ≡ getD (m .bytes) x 0
   unfolding store
   byte-stored x h = go (inside m a) h
     where
-      go : (c : Bool) → (c && (leb a x && ltb x (a + 8)) ≡ true → ⊥) → getD (cond c (lent (placed 8 (m .bytes) a v)) m .bytes) x 0 ≡ getD (m .bytes) x 0
+      go : (c : Bool) → (c && (leb a x && ltb x (a + 8)) ≡ true → ⊥) → getD (cond c (holding m (placed 8 (m .bytes) a v)) m .bytes) x 0 ≡ getD (m .bytes) x 0
       go false h = refl
       go true h = getD-placed 8 (m .bytes) a v x away
         where

@@ -2,23 +2,23 @@
 use Prim.Native.Nat.{ℕ, zero, suc, _+_}
 use mathlib.Core.Bool.{Bool, cond}
 use mathlib.Core.List.{List, [], _∷_, _++_}
-use Rattle.machine.specs.Types.{Machine, Instruction, Decoded, Executed, Accessed, Codes, Status, aok, isBad}
-use Rattle.machine.specs.Memory.{Memory, Registers, value}
+use Rattle.machine.specs.Types.{Window, Machine, Instruction, Decoded, Executed, Accessed, Codes, Status, aok, isBad}
+use Rattle.machine.specs.Memory.{Memory, through, Registers, value}
 use Rattle.machine.specs.Fetch.{fetch, blameOf, noBlame}
 use Rattle.machine.specs.Stages.{decode, execute, access, newCodes, newMemory, newRegisters, nextAddress}
 
--- the machine record, its memory, and the addresses logged so far
+-- the machine record, its memory seen through the record's window, and the addresses logged so far
 pub record Plain : Type 0 where
   pub machine : Machine
   pub memory : Memory
   pub log : List ℕ
 
 -- a fresh start: nothing performed, and the last address is the start address
-unfoldable pub plainStart : Registers → Codes → ℕ → Machine
-plainStart r c a = record { registers = r; codes = c; address = a; status = aok; last = a; count = 0; blame = noBlame }
+unfoldable pub plainStart : Window → Registers → Codes → ℕ → Machine
+plainStart w r c a = record { registers = r; codes = c; address = a; status = aok; last = a; count = 0; blame = noBlame; window = w }
 
 abbrev pub plainOf : Machine → Memory → Plain
-plainOf k m = record { machine = k; memory = m; log = [] }
+plainOf k m = record { machine = k; memory = through (k .window) m; log = [] }
 
 unfoldable pub isStopped : Plain → Bool
 isStopped s = isBad (s .machine .status)
@@ -49,6 +49,7 @@ performed s =
             last = s .machine .address;
             count = s .machine .count + 1;
             blame = s .machine .blame;
+            window = s .machine .window;
           };
       memory = newMemory (executed s) (s .memory);
       log = s .log ++ s .machine .address ∷ [];
@@ -68,6 +69,7 @@ stoppedBy s bad =
             last = s .machine .address;
             count = s .machine .count + 1;
             blame = blameOf (s .memory) (fetched s);
+            window = s .machine .window;
           };
       memory = s .memory;
       log = s .log ++ s .machine .address ∷ [];

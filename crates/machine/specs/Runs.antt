@@ -4,8 +4,8 @@ use mathlib.Core.Bool.{Bool, false, cond, _||_}
 use mathlib.Core.List.{List, [], _∷_}
 use lib.Dec.{ltb, leb, eqb}
 use lib.ListN.{length}
-use Rattle.machine.specs.Types.{Machine, Codes, FetchAnswer, adr, firstMissing}
-use Rattle.machine.specs.Memory.{Memory, size, Registers}
+use Rattle.machine.specs.Types.{Window, noWindow, within, Machine, Codes, FetchAnswer, adr, firstMissing}
+use Rattle.machine.specs.Memory.{Memory, size, through, Registers}
 use Rattle.machine.specs.Fetch.{fetch, blameOf, stopping}
 use Rattle.machine.specs.Plain.{Plain, plainOf, plainStart, steps}
 
@@ -29,6 +29,11 @@ unfoldable pub logRefused : List ℕ → ℕ → Bool
 logRefused [] budget = false
 logRefused (n ∷ ns) budget = ltb n budget || logRefused ns budget
 
+-- 5, of #113: a code window "first address and end, both at most N, the end not below the first; otherwise refusal 5"
+unfoldable pub windowRefused : Window → (size : ℕ) → Bool
+windowRefused noWindow size = false
+windowRefused (within first end) size = ltb size first || (ltb size end || ltb end first)
+
 -- 6, of #109: "a fresh start address not below N becomes refusal 6"
 unfoldable pub startRefused : (size address : ℕ) → Bool
 startRefused size a = leb size a
@@ -46,19 +51,20 @@ fetchAnswer m a =
     record { number = n; instruction = i; blame = blameOf m i }
 
 -- A FRESH START: 6 is "checked last". Refused, it gives back the record that was asked for, as it gives it back otherwise
-unfoldable pub startRefusal : (size address : ℕ) → ℕ
-startRefusal size a = lowest ((1, sizeRefused size) ∷ (6, startRefused size a) ∷ [])
+unfoldable pub startRefusal : Window → (size address : ℕ) → ℕ
+startRefusal w size a = lowest ((1, sizeRefused size) ∷ (5, windowRefused w size) ∷ (6, startRefused size a) ∷ [])
 
-unfoldable pub plainStarted : ℕ → Registers → Codes → ℕ → ℕ × Machine
-plainStarted size r c a = (startRefusal size a, plainStart r c a)
+unfoldable pub plainStarted : Window → ℕ → Registers → Codes → ℕ → ℕ × Machine
+plainStarted w size r c a = (startRefusal w size a, plainStart w r c a)
 
 -- THE PLAIN RUN
 abbrev pub plainLimit : ℕ
 plainLimit = 65536
 
-unfoldable pub plainRefusal : (size count budget : ℕ) → List ℕ → ℕ
-plainRefusal size count budget logs =
-    lowest ((1, sizeRefused size) ∷ (3, budgetRefused plainLimit count budget) ∷ (4, logRefused logs budget) ∷ [])
+unfoldable pub plainRefusal : Window → (size count budget : ℕ) → List ℕ → ℕ
+plainRefusal w size count budget logs =
+    lowest
+    ((1, sizeRefused size) ∷ (3, budgetRefused plainLimit count budget) ∷ (4, logRefused logs budget) ∷ (5, windowRefused w size) ∷ [])
 
 -- an answer: the number, the record, and all that was lent
 pub record PlainAnswer : Type 0 where
@@ -70,13 +76,14 @@ pub record PlainAnswer : Type 0 where
 abbrev pub plainAnswer : ℕ → Machine → Memory → List ℕ → PlainAnswer
 plainAnswer n k m l = record { number = n; machine = k; memory = m; log = l }
 
+-- memory is given back as it was lent, without a window
 unfoldable pub plainDone : Plain → List ℕ → PlainAnswer
-plainDone s log = plainAnswer 0 (s .machine) (s .memory) (laid (s .log) log)
+plainDone s log = plainAnswer 0 (s .machine) (through noWindow (s .memory)) (laid (s .log) log)
 
 -- a refusal is "number, the record as given, nothing changed"; logs are the lengths of the logs lent
 unfoldable pub plainBy : List ℕ → Machine → Memory → ℕ → List ℕ → PlainAnswer
 plainBy logs k m budget log =
-    let n = plainRefusal (size m) (k .count) budget logs in
+    let n = plainRefusal (k .window) (size m) (k .count) budget logs in
     cond (eqb n 0) (plainDone (steps (plainOf k m) budget) log) (plainAnswer n k m log)
 
 unfoldable pub plainRun : Machine → Memory → ℕ → List ℕ → PlainAnswer

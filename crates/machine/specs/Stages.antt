@@ -1,14 +1,14 @@
 -- The stage tables of document 003, by code, which both engines use: decode, execute, access, write back, next address.
-use Prim.Native.Nat.{ℕ}
+use Prim.Native.Nat.{ℕ, _+_}
 use mathlib.Core.Bool.{Bool, true, false, cond, not, _&&_, _||_, Bool·beq}
 use mathlib.Core.List.{[], _∷_}
 use lib.Bits.{bitAnd, bitXor}
-use lib.Dec.{eqb}
+use lib.Dec.{ltb, eqb}
 use lib.ListN.{getD}
 use lib.IntN.{pos, _+ℤ_, _-ℤ_}
 use lib.Signed.{ltZ}
 use mir.Syntax.{w64}
-use Rattle.machine.specs.Types.{Instruction, Decoded, Executed, Accessed, Codes, Status, adr, isBad}
+use Rattle.machine.specs.Types.{Window, noWindow, within, Instruction, Decoded, Executed, Accessed, Codes, Status, adr, isBad}
 use Rattle.machine.specs.Words.{sum, difference, signed, outside}
 use Rattle.machine.specs.Memory.{Memory, Registers, inside, load, store, written}
 use Rattle.machine.specs.Table.{rowOf, is, cmov, jump, call, ret, Which, none, rA, rB, rsp}
@@ -138,6 +138,15 @@ storedWord x = stored (rowOf (x .instruction .code) .accesses) x
 unfoldable pub accessStatus : Executed → Memory → Status
 accessStatus x m = cond ((loads (x .instruction) || stores (x .instruction)) && not (inside m (accessAddress x))) adr (x .instruction .status)
 
+-- "writes any window byte": the eight bytes from a on and the window have one in common, which an empty window has with none
+unfoldable pub meetsWindow : Window → ℕ → Bool
+meetsWindow noWindow a = false
+meetsWindow (within first end) a = ltb first end && (ltb a end && ltb first (a + 8))
+
+-- "a store that succeeds in M and writes any window byte" (02, #113), the same value or another
+unfoldable pub patches : Executed → Memory → Bool
+patches x m = stores (x .instruction) && (not (isBad (accessStatus x m)) && meetsWindow (m .window) (accessAddress x))
+
 unfoldable pub access : Executed → Memory → Accessed
 access x m =
     record {
@@ -146,6 +155,7 @@ access x m =
       holds = x .holds;
       word = cond (loads (x .instruction)) (load m (accessAddress x)) 0;
       status = accessStatus x m;
+      patched = patches x m;
     }
 
 unfoldable pub newMemory : Executed → Memory → Memory

@@ -8,6 +8,8 @@ pub use Rattle.machine.specs.declared.Fault.the-variants.{NoFault as noF
 pub use Rattle.machine.specs.declared.Fault.the-variants.{LaterMissing as laterMissing, NoRegister as noRegister}
 pub use Rattle.machine.specs.declared.Blame.{Blame}
 pub use Rattle.machine.specs.declared.Codes.{Codes}
+pub use Rattle.machine.specs.declared.Window.{Window}
+pub use Rattle.machine.specs.declared.Window.the-variants.{NoWindow as noWindow, Within as within}
 pub use Rattle.machine.specs.declared.Machine.{Machine}
 pub use Rattle.machine.specs.declared.Instruction.{Instruction}
 pub use Rattle.machine.specs.declared.FetchAnswer.{FetchAnswer}
@@ -37,6 +39,11 @@ faultNumber noCode = 2
 faultNumber noFunction = 3
 faultNumber laterMissing = 4
 faultNumber noRegister = 5
+
+-- "With a window set" (02, #113)
+unfoldable pub isSet : Window → Bool
+isSet noWindow = false
+isSet (within first end) = true
 
 -- "codes as 4ZF + 2SF + OF"
 unfoldable pub codesNumber : Codes → ℕ

@@ -60,7 +60,13 @@ pub struct Codes {
     pub of: bool,
 }
 
-// The plain engine's machine record; what a bad fetch that stopped it is blamed on comes last.
+// The code window: none, or from a first address up to an end, which is not in it.
+pub enum Window {
+    NoWindow,
+    Within(u64, u64),
+}
+
+// The plain engine's machine record; what a bad fetch that stopped it is blamed on and the code window come last.
 pub struct Machine {
     pub registers: [u64; REGISTERS],
     pub codes: Codes,
@@ -69,6 +75,7 @@ pub struct Machine {
     pub last: u64,
     pub count: u64,
     pub blame: Blame,
+    pub window: Window,
 }
 
 // An instruction as it was fetched: where it stands, its status at fetch, its fields, the address that follows it, and why its fetch failed.
@@ -106,11 +113,12 @@ pub struct Executed {
     pub holds: bool,
 }
 
-// What stands in W: the word loaded, and the status after the access.
+// What stands in W: the word loaded, the status after the access, and whether it wrote into the window.
 pub struct Accessed {
     pub instruction: Instruction,
     pub result: u64,
     pub holds: bool,
     pub word: u64,
     pub status: Status,
+    pub patched: bool,
 }

@@ -16,7 +16,7 @@ use Rattle.machine.specs.Memory.{Memory, Registers}
 use Rattle.clocked.specs.Prediction.{coreOf}
 use Rattle.clocked.specs.Pipeline.{Piped, afterE, afterM, handed, executing, source, sourceM, sourceW, decodedD, badInW, memoryAfter, registersAfter}
 use Rattle.clocked.specs.Pipeline.{lastAfter, retiredAfter, kindsAfter, logged, advanced, stoppedIn, clockBy, clock, waits}
-use Rattle.clocked.specs.Pipeline.{mispredicts, returns, fails, fetchAddress, fetchedNow, nextF, nextD, nextE, nextM, nextCodes}
+use Rattle.clocked.specs.Pipeline.{mispredicts, returns, fails, cancels, fetchAddress, fetchedNow, nextF, nextD, nextE, nextM, nextCodes}
 use Rattle.laws.specs.Status.{sound}
 use Rattle.retiring.specs.Retiring.{statusAfter, tallyAfter}
 use Rattle.retiring.specs.declared.Tally.{Tally}
@@ -68,5 +68,5 @@ module _ (s : Settings) (f : Flow) (t : Tally) (x : Status) (r : Registers) (z :
   pub goes : isBad x ≡ false → badInW (f .w) ≡ false
       → clock (coreOf s) now ≡ after s t es ys (f .w) (flowAfter (coreOf s) f r m) (registersAfter (f .w) r) z (memoryAfter (f .m) m)
   unfolding clock advanced executing whole tallyAfter flowAfter shiftedOf signalsOf signalsWith fetchedIn
-      waits mispredicts returns fails fetchAddress fetchedNow nextF nextD nextE nextM nextCodes
+      waits mispredicts returns fails cancels fetchAddress fetchedNow nextF nextD nextE nextM nextCodes
   goes h b = rw h (goes-by (f .w) b ∙ rw (b, sound (statusAfter (f .w)) (bad-after (f .w) ∙ b), decoded-same s f t x r z m es ys (f .d)))

@@ -12,7 +12,7 @@ use Rattle.answers.specs.Logs.{laid-none}
 use Rattle.machine.specs.Memory.{Memory, size}
 use Rattle.clocked.specs.Prediction.{coreOf}
 use Rattle.clocked.specs.Pipeline.{pipedOf, clocks}
-use Rattle.machine.specs.Runs.{sizeRefused, budgetRefused, logRefused}
+use Rattle.machine.specs.Runs.{sizeRefused, budgetRefused, logRefused, windowRefused}
 use Rattle.clocked.specs.PipeRuns.{settingsRefused, refusedInD, refusedInE, refusedInM, refusedInW, refusedKept, countsRefused}
 use Rattle.machine.specs.Runs.{lowest}
 use Rattle.clocked.specs.PipeRuns.{recordRefused, pipeLimit, pipeRefusal, PipeAnswer, pipeAnswer, pipeDone, pipeBy, pipeRun, pipeRunUnlogged, pipeClock}
@@ -39,7 +39,7 @@ accepted short k size budget n e h =
     let size-fits = failed (sizeRefused size) 0 _ (sym e ∙ h) in
     let budget-fits = failed (budgetRefused pipeLimit (k .cycles) budget) 2 _ (size-fits .1) in
     let logs-fit = failed short 3 _ (budget-fits .1) in
-    let set = neither (settingsRefused (k .settings)) _ (failed (recordRefused k) 4 _ (logs-fit .1) .0) in
+    let set = neither (settingsRefused (k .settings)) _ (neither (recordRefused k) _ (failed (recordRefused k || windowRefused (k .settings .window) size) 4 _ (logs-fit .1) .0) .0) in
     let d = neither (refusedInD (k .d)) _ (set .1) in
     let m = neither (refusedInM (k .m)) _ (neither (refusedInE (k .e)) _ (d .1) .1) in
     let kept = neither (refusedKept (k .kept)) _ (neither (refusedInW (k .w)) _ (m .1) .1) in

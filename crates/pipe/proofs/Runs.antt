@@ -21,10 +21,11 @@ use Rattle.clocked.specs.declared.Kept.{Kept}
 use Rattle.clocked.specs.declared.StageW.{StageW}
 use Rattle.clocked.specs.declared.StageW.the-variants.{BubbleW as bubbleW, InW as inW}
 use Rattle.machine.specs.Types.{isBad}
-use Rattle.machine.specs.Memory.{Memory}
+use Rattle.machine.specs.declared.Window.the-variants.{NoWindow as noWindow}
+use Rattle.machine.specs.Memory.{Memory, through}
 use Rattle.clocked.specs.Prediction.{Core, coreOf}
 use Rattle.clocked.specs.declared.Reason.{Reason}
-use Rattle.clocked.specs.declared.Reason.the-variants.{Free as free, Waited as waited, WronglyGuessed as wronglyGuessed, Returned as returned}
+use Rattle.clocked.specs.declared.Reason.the-variants.{Free as free, Waited as waited, WronglyGuessed as wronglyGuessed, Returned as returned, Patched as patched}
 use Rattle.clocked.specs.Charges.{counted, reasonFrom}
 use Rattle.clocked.specs.Pipeline.{Piped, pipedOf, badInW, memoryAfter, registersAfter, retiredAfter, kindsAfter, logged, clock, clocks}
 use Rattle.machine.specs.Runs.{laid}
@@ -47,21 +48,23 @@ logged-count bubbleW es x f n h = rw append-nil h
 logged-count (inW w) es x f n h = rw length-append (omega arith)
 
 -- COUNTS
-pub record Three (n : ℕ) (t : Kinds) : Type 0 where
+pub record Under (n : ℕ) (t : Kinds) : Type 0 where
   pub loaduse : t .loaduse < n
   pub mispredict : t .mispredict < n
   pub returned : t .returned < n
+  pub patched : t .patched < n
 
-counted-small : (n : ℕ) (t : Kinds) (r : Reason) → Three n t → Three (n + 3) (counted t r)
+counted-small : (n : ℕ) (t : Kinds) (r : Reason) → Under n t → Under (n + 3) (counted t r)
 unfolding counted
-counted-small n t free h = record { loaduse = omega arith; mispredict = omega arith; returned = omega arith }
-counted-small n t waited h = record { loaduse = omega arith; mispredict = omega arith; returned = omega arith }
-counted-small n t wronglyGuessed h = record { loaduse = omega arith; mispredict = omega arith; returned = omega arith }
-counted-small n t returned h = record { loaduse = omega arith; mispredict = omega arith; returned = omega arith }
+counted-small n t free h = record { loaduse = omega arith; mispredict = omega arith; returned = omega arith; patched = omega arith }
+counted-small n t waited h = record { loaduse = omega arith; mispredict = omega arith; returned = omega arith; patched = omega arith }
+counted-small n t wronglyGuessed h = record { loaduse = omega arith; mispredict = omega arith; returned = omega arith; patched = omega arith }
+counted-small n t returned h = record { loaduse = omega arith; mispredict = omega arith; returned = omega arith; patched = omega arith }
+counted-small n t patched h = record { loaduse = omega arith; mispredict = omega arith; returned = omega arith; patched = omega arith }
 
-kinds-small : (g : Core) (n : ℕ) (w : StageW) (k : Kept) (t : Kinds) → Three n t → Three (n + 3) (kindsAfter g w k t)
+kinds-small : (g : Core) (n : ℕ) (w : StageW) (k : Kept) (t : Kinds) → Under n t → Under (n + 3) (kindsAfter g w k t)
 unfolding kindsAfter
-kinds-small g n bubbleW k t h = record { loaduse = omega arith; mispredict = omega arith; returned = omega arith }
+kinds-small g n bubbleW k t h = record { loaduse = omega arith; mispredict = omega arith; returned = omega arith; patched = omega arith }
 kinds-small g n (inW w) k t h = counted-small n t (reasonFrom g k (w .instruction)) h
 
 retired-small : (w : StageW) (k n : ℕ) → k < n → retiredAfter w k < n + 3
@@ -72,13 +75,14 @@ retired-small (inW w) k n h = omega arith
 pub tally-small : (g : Core) (n : ℕ) (t : Tally) (w : StageW) → Small n t → Small (n + 3) (tallyAfter g t w)
 unfolding tallyAfter
 tally-small g n t w h =
-    let three = kinds-small g n w (t .kept) (t .kinds) (record { loaduse = h .loaduse; mispredict = h .mispredict; returned = h .returned }) in
+    let under = kinds-small g n w (t .kept) (t .kinds) (record { loaduse = h .loaduse; mispredict = h .mispredict; returned = h .returned; patched = h .patched }) in
     record {
       retired = retired-small w (t .retired) n (h .retired);
       cycles = omega (arith, h .cycles);
-      loaduse = three .loaduse;
-      mispredict = three .mispredict;
-      returned = three .returned;
+      loaduse = under .loaduse;
+      mispredict = under .mispredict;
+      returned = under .returned;
+      patched = under .patched;
     }
 
 small-first : (k : Pipeline) → countsRefused k ≡ false → k .cycles ≤ pipeLimit → Small 262146 (tallyOf k)
@@ -86,17 +90,19 @@ unfolding countsRefused tallyOf
 small-first k h c =
     let all = neither (ltb (k .cycles) (k .retired)) _ h in
     let kinds = neither (ltb (k .cycles) (k .kinds .loaduse)) _ (all .1) in
-    let last = neither (ltb (k .cycles) (k .kinds .mispredict)) _ (kinds .1) in
+    let guesses = neither (ltb (k .cycles) (k .kinds .mispredict)) _ (kinds .1) in
+    let last = neither (ltb (k .cycles) (k .kinds .returned)) _ (guesses .1) in
     record {
       retired = omega (arith, ltb-false (k .cycles) (k .retired) (all .0));
       cycles = omega arith;
       loaduse = omega (arith, ltb-false (k .cycles) (k .kinds .loaduse) (kinds .0));
-      mispredict = omega (arith, ltb-false (k .cycles) (k .kinds .mispredict) (last .0));
-      returned = omega (arith, ltb-false (k .cycles) (k .kinds .returned) (last .1));
+      mispredict = omega (arith, ltb-false (k .cycles) (k .kinds .mispredict) (guesses .0));
+      returned = omega (arith, ltb-false (k .cycles) (k .kinds .returned) (last .0));
+      patched = omega (arith, ltb-false (k .cycles) (k .kinds .patched) (last .1));
     }
 
 pub small-enough : (n : ℕ) (t : Tally) → n < pipeLimit → Small (262146 + n * 3) t → Small 2000000 t
-small-enough n t h s = record { retired = omega arith; cycles = omega arith; loaduse = omega arith; mispredict = omega arith; returned = omega arith }
+small-enough n t h s = record { retired = omega arith; cycles = omega arith; loaduse = omega arith; mispredict = omega arith; returned = omega arith; patched = omega arith }
 
 -- FROM CLOCK TO CLOCK
 -- after n clocks of a run from p₀ that began with first retirements and the logs a₀ and y₀
@@ -113,11 +119,11 @@ pub record Here (s : Settings) (p₀ : Piped) (first : ℕ) (a₀ y₀ : List �
   pub ahead : f .ahead ≡ aheadOf (coreOf s) (f .m) (f .w)
   pub long : length r ≡ 15
 
-pub here-first : {f : Flow} {t : Tally} {x : Status} {r : List ℕ} {z : Blame} {m : Memory} {a y : List ℕ} (k : Pipeline) → f ≡ flowOf k
+pub here-first : {f : Flow} {t : Tally} {x : Status} {r : List ℕ} {z : Blame} {a y : List ℕ} (k : Pipeline) (m : Memory) → f ≡ flowOf k
     → length r ≡ 15 → t ≡ tallyOf k → countsRefused k ≡ false → k .cycles ≤ pipeLimit
-    → Here (k .settings) (pipedOf (whole (k .settings) f t x r z) m) (k .retired) a y 0 f t x r z m a y
-unfolding clocks laid flowOf tallyOf
-here-first k i l e h c =
+    → Here (k .settings) (pipedOf (whole (k .settings) f t x r z) m) (k .retired) a y 0 f t x r z (through (k .settings .window) m) a y
+unfolding clocks laid flowOf tallyOf whole
+here-first k m i l e h c =
     record {
       entries = [];
       times = [];
@@ -167,20 +173,20 @@ module _ {s : Settings} {p₀ : Piped} {first : ℕ} {a₀ y₀ : List ℕ} {n :
   here-stopped w ez = (rw ez (here-after f r _ m (stops s f t x r z m (h .entries) (h .times) (cc) (cc)) (h .ahead) (h .long)), cc (bad-after (f .w)))
 
 -- THE END
-pub same-start : {k : Pipeline} {f : Flow} {t : Tally} {m : Memory} → f ≡ flowOf k → t ≡ tallyOf k
+pub same-start : {k : Pipeline} {f : Flow} {t : Tally} (m : Memory) → f ≡ flowOf k → t ≡ tallyOf k
     → pipedOf (whole (k .settings) f t (k .status) (k .registers) (k .blame)) m ≡ pipedOf k m
 unfolding whole flowOf tallyOf
-same-start ef et = rw (ef, et)
+same-start m ef et = rw (ef, et)
 
 -- by each way out of the loop the variables primed are those that it left
-module _ {s : Settings} {p₀ : Piped} {k : Pipeline} {m₀ : Memory} {first : ℕ} {a₀ y₀ : List ℕ} {n : ℕ} {f : Flow} {t t′ : Tally} {x x′ : Status}
-    {r : List ℕ} {z z′ : Blame} {m : Memory} {a y a′ y′ : List ℕ} {p : Pipeline} (budget : ℕ) (from : p₀ ≡ pipedOf k m₀)
+module _ {s : Settings} {p₀ : Piped} {k : Pipeline} {first : ℕ} {a₀ y₀ : List ℕ} {n : ℕ} {f : Flow} {t t′ : Tally} {x x′ : Status}
+    {r : List ℕ} {z z′ : Blame} {m : Memory} {a y a′ y′ : List ℕ} {p : Pipeline} (m₀ : Memory) (budget : ℕ) (from : p₀ ≡ pipedOf k m₀)
     (h : Here s p₀ first a₀ y₀ n f t x r z m a y) (to : p ≡ whole s f t′ x′ r z′) (ez : z′ ≡ z) (ea : a′ ≡ a) (ey : y′ ≡ y) (et : t′ ≡ t) (ex : x′ ≡ x) where
-  pub at-budget : n ≡ budget → pipeAnswer 0 p m a′ y′ ≡ pipeDone (clocks (coreOf s) (pipedOf k m₀) budget) a₀ y₀
+  pub at-budget : n ≡ budget → pipeAnswer 0 p (through noWindow m) a′ y′ ≡ pipeDone (clocks (coreOf s) (pipedOf k m₀) budget) a₀ y₀
   unfolding pipeDone
   at-budget e = cc
 
-  pub at-stop : n ≤ budget → isBad x ≡ true → pipeAnswer 0 p m a′ y′ ≡ pipeDone (clocks (coreOf s) (pipedOf k m₀) budget) a₀ y₀
+  pub at-stop : n ≤ budget → isBad x ≡ true → pipeAnswer 0 p (through noWindow m) a′ y′ ≡ pipeDone (clocks (coreOf s) (pipedOf k m₀) budget) a₀ y₀
   unfolding pipeDone whole
   at-stop l b =
       let bad : isBad (clocks (coreOf s) p₀ n .pipeline .status) ≡ true = rw (h .state) b in

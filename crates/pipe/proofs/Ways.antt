@@ -30,7 +30,7 @@ use Rattle.machine.specs.Fetch.{blameOf, noBlame}
 use Rattle.clocked.specs.Prediction.{coreOf}
 use Rattle.clocked.specs.Pipeline.{wrong}
 use Rattle.clocked.specs.PipeRuns.{instructionRefused, refusedInD, refusedInE, refusedInM, refusedInW, refusedKept}
-use Rattle.machine.specs.Runs.{sizeRefused, startRefused, budgetRefused, lowest}
+use Rattle.machine.specs.Runs.{sizeRefused, startRefused, windowRefused, budgetRefused, lowest}
 use Rattle.clocked.specs.PipeRuns.{countsRefused, settingsRefused, recordRefused, pipeStartRefusal, pipeLimit}
 use Rattle.stage.specs.declared.forwarding.Targets.{Targets}
 use Rattle.stage.specs.Forwarding.{targetsM, targetsW}
@@ -86,7 +86,7 @@ some-kept k x b h p = cc
 
 pub counts-is : (p : Pipeline)
     → (ltb (p .cycles) (p .retired) || (ltb (p .cycles) (p .kinds .loaduse)
-    || (ltb (p .cycles) (p .kinds .mispredict) || ltb (p .cycles) (p .kinds .returned)))) ≡ countsRefused p
+    || (ltb (p .cycles) (p .kinds .mispredict) || (ltb (p .cycles) (p .kinds .returned) || ltb (p .cycles) (p .kinds .patched))))) ≡ countsRefused p
 unfolding countsRefused
 counts-is p = refl
 
@@ -100,7 +100,7 @@ pub record-is : (p : Pipeline) (s d e m w k n : Bool) → s ≡ settingsRefused 
 unfolding recordRefused
 record-is p s d e m w k n o f g h i j l = cc
 
-module _ (short : Bool) (p : Pipeline) (size budget : ℕ) (s b r : Bool) (es : s ≡ sizeRefused size) where
+module _ (short : Bool) (p : Pipeline) (size budget : ℕ) (s b r v : Bool) (es : s ≡ sizeRefused size) where
   pub first-refusal : s ≡ true → 1 ≡ refusalBy short p size budget
   unfolding refusalBy lowest
   first-refusal h = cc
@@ -114,13 +114,13 @@ module _ (short : Bool) (p : Pipeline) (size budget : ℕ) (s b r : Bool) (es : 
     unfolding refusalBy lowest
     fourth-refusal h k = cc
 
-    pub fifth-refusal : b ≡ false → short ≡ false → r ≡ recordRefused p → r ≡ true → 5 ≡ refusalBy short p size budget
+    pub fifth-refusal : b ≡ false → short ≡ false → r ≡ recordRefused p → v ≡ windowRefused (p .settings .window) size → r || v ≡ true → 5 ≡ refusalBy short p size budget
     unfolding refusalBy lowest
-    fifth-refusal h k e l = cc
+    fifth-refusal h k e f l = cc
 
-    pub no-refusal : b ≡ false → short ≡ false → r ≡ recordRefused p → r ≡ false → 0 ≡ refusalBy short p size budget
+    pub no-refusal : b ≡ false → short ≡ false → r ≡ recordRefused p → v ≡ windowRefused (p .settings .window) size → r || v ≡ false → 0 ≡ refusalBy short p size budget
     unfolding refusalBy lowest
-    no-refusal h k e l = cc
+    no-refusal h k e f l = cc
 
 -- a fresh start's
 module _ (s : Settings) (size a : ℕ) (x : Bool) (ex : x ≡ sizeRefused size) where
@@ -128,12 +128,12 @@ module _ (s : Settings) (size a : ℕ) (x : Bool) (ex : x ≡ sizeRefused size) 
   unfolding pipeStartRefusal lowest
   no-size h = cc
 
-  module _ (fx : x ≡ false) (y : Bool) (ey : y ≡ settingsRefused s) where
-    pub no-rule : y ≡ true → 5 ≡ pipeStartRefusal s size a
+  module _ (fx : x ≡ false) (y v : Bool) (ey : y ≡ settingsRefused s) (ev : v ≡ windowRefused (s .window) size) where
+    pub no-rule : y || v ≡ true → 5 ≡ pipeStartRefusal s size a
     unfolding pipeStartRefusal lowest
     no-rule h = cc
 
-    module _ (fy : y ≡ false) (z : Bool) (ez : z ≡ startRefused size a) where
+    module _ (fy : y || v ≡ false) (z : Bool) (ez : z ≡ startRefused size a) where
       pub not-below : z ≡ true → 6 ≡ pipeStartRefusal s size a
       unfolding pipeStartRefusal lowest
       not-below h = cc

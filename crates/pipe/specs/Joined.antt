@@ -6,7 +6,9 @@ use mathlib.Core.List.{List, [], _∷_, _++_, append-assoc, append-nil}
 use Prim.Native.Nat.{ℕ, zero, suc, _+_, _-_}
 use native.Mathlib.Nat.{add-zero, add-suc}
 use native.Mathlib.Omega.{arith}
+use lib.Dec.{eqb}
 use lib.ListN.{length, take, drop, length-append}
+use Rattle.machine.specs.declared.Window.the-variants.{NoWindow as noWindow}
 use Rattle.clocked.specs.declared.Settings.{Settings}
 use Rattle.clocked.specs.declared.Pipeline.{Pipeline}
 use Rattle.clocked.specs.declared.StageD.{StageD}
@@ -14,13 +16,14 @@ use Rattle.clocked.specs.declared.StageD.the-variants.{BubbleD as bubbleD, InD 
 use Rattle.clocked.specs.declared.StageW.{StageW}
 use Rattle.clocked.specs.declared.StageW.the-variants.{BubbleW as bubbleW, InW as inW}
 use Rattle.machine.specs.Types.{isBad}
-use Rattle.machine.specs.Memory.{Memory, size}
+use Rattle.machine.specs.Memory.{Memory, size, through}
 use Rattle.clocked.specs.Prediction.{Core, coreOf}
-use Rattle.clocked.specs.Pipeline.{Piped, pipedOf, executing, source, sourceM, sourceW, waits, mispredicts, returns, fails, fetchAddress, fetchedNow, nextF}
+use Rattle.clocked.specs.Pipeline.{Piped, pipedOf, executing, source, sourceM, sourceW, waits, mispredicts, returns, fails, cancels, fetchAddress, fetchedNow, nextF}
 use Rattle.clocked.specs.Pipeline.{nextD, nextE, nextM, nextCodes, decodedD, retiredAfter, logged, advanced, stoppedIn, clockBy, clock, clocks}
-use Rattle.machine.specs.Runs.{laid}
+use Rattle.machine.specs.Runs.{laid, sizeRefused, budgetRefused, lowest}
 use Rattle.clocked.specs.PipeRuns.{pipeRefusal, PipeAnswer, pipeAnswer, pipeDone, pipeBy, pipeRun, pipeRunUnlogged}
 use Rattle.clock_laws.specs.Settings.{clocks-keep}
+use Rattle.clock_laws.specs.Window.{clocks-see}
 use Rattle.answers.specs.Logs.{laid-joined}
 use Rattle.answers.specs.Refusals.{ran}
 use Rattle.answers.specs.Joined.{Engine, moved}
@@ -36,7 +39,7 @@ module _ (g : Core) (es ys : List ℕ) where
   decoded-before p (inD i) = refl
 
   advanced-before : (p : Piped) → advanced g (before es ys p) ≡ before es ys (advanced g p)
-  unfolding before executing advanced waits mispredicts returns fails fetchAddress fetchedNow nextF nextD nextE nextM nextCodes
+  unfolding before executing advanced waits mispredicts returns fails cancels fetchAddress fetchedNow nextF nextD nextE nextM nextCodes
   advanced-before p = rw (decoded-before p (p .pipeline .d), append-assoc es, append-assoc ys)
 
   by-before : (p : Piped) (w : StageW) → clockBy g (before es ys p) w ≡ before es ys (clockBy g p w)
@@ -112,12 +115,22 @@ module _ (g : Core) where
   clocks-add p a zero = rw add-zero
   clocks-add p a (suc b) = rw (add-suc a b) (ap (clock g) (clocks-add p a b))
 
-  clocks-join : (p : Piped) (a b : ℕ)
-      → clocks g p (a + b) ≡ before (clocks g p a .addressLog) (clocks g p a .cycleLog) (clocks g (pipedOf (clocks g p a .pipeline) (clocks g p a .memory)) b)
+  -- memory is seen through the record's window, and stays so: begun anew from record and memory, the state is the same
+  anew : (k : Pipeline) (m : Memory) (n : ℕ)
+      → let s = clocks g (pipedOf k m) n in s ≡ before (s .addressLog) (s .cycleLog) (pipedOf (s .pipeline) (s .memory))
   unfolding before
-  clocks-join p a b =
-      let s = clocks g p a in
-      clocks-add p a b ∙ simp append-nil at (clocks-before g (s .addressLog) (s .cycleLog) (pipedOf (s .pipeline) (s .memory)) b)
+  anew k m n =
+      let s = clocks g (pipedOf k m) n in
+      let seen = clocks-see g (pipedOf k m) n ∙ sym (ap (λ (t : Settings). t .window) (clocks-keep g (pipedOf k m) n)) in
+      simp append-nil (ap (λ w. record { pipeline = s .pipeline; memory = through w (s .memory); addressLog = s .addressLog; cycleLog = s .cycleLog }) seen)
+
+  clocks-join : (k : Pipeline) (m : Memory) (a b : ℕ)
+      → let s = clocks g (pipedOf k m) a in
+      clocks g (pipedOf k m) (a + b) ≡ before (s .addressLog) (s .cycleLog) (clocks g (pipedOf (s .pipeline) (s .memory)) b)
+  clocks-join k m a b =
+      let s = clocks g (pipedOf k m) a in
+      clocks-add (pipedOf k m) a b
+      ∙ (ap (λ (t : Piped). clocks g t b) (anew k m a) ∙ clocks-before g (s .addressLog) (s .cycleLog) (pipedOf (s .pipeline) (s .memory)) b)
 
 -- a run that is not refused, with logs or without
 done : (logs : List ℕ) (k : Pipeline) (m : Memory) (n : ℕ) (a y : List ℕ) → pipeBy logs k m n a y .number ≡ 0
@@ -166,34 +179,54 @@ module _ (k : Pipeline) (m : Memory) (a b : ℕ) (log times : List ℕ) where
       let e = clocks-even g (pipedOf k m) a in
       let f = done-run k m a log times hf in
       let p : first .pipeline ≡ s .pipeline = ap (λ (t : PipeAnswer). t .pipeline) f in
-      let y : first .memory ≡ s .memory = ap (λ (t : PipeAnswer). t .memory) f in
+      let y : first .memory ≡ through noWindow (s .memory) = ap (λ (t : PipeAnswer). t .memory) f in
       let n = ap (λ (x : Pipeline). x .retired) p in
       from-states s (clocks (coreOf (first .pipeline .settings)) (pipedOf (first .pipeline) (first .memory)) b) retirements log times first second both
       (ap (λ (t : PipeAnswer). t .addresses) f) (ap (λ (t : PipeAnswer). t .cycles) f) (omega (arith, e .addresses, n)) (omega (arith, e .cycles, n))
       (done-run (first .pipeline) (first .memory) b (drop retirements (first .addresses)) (drop retirements (first .cycles)) hs)
-      (done-run k m (a + b) log times hb ∙ rw (p, y, clocks-keep g (pipedOf k m) a) (ap (λ (t : Piped). pipeDone t log times) (clocks-join g (pipedOf k m) a b)))
+      (rw (p, y)
+      (done-run k m (a + b) log times hb
+      ∙ (ap (λ (t : Piped). pipeDone t log times) (clocks-join g k m a b)
+      ∙ ap (λ (x : Settings). pipeDone (before (s .addressLog) (s .cycleLog) (clocks (coreOf x) (pipedOf (s .pipeline) (s .memory)) b)) log times)
+      (sym (clocks-keep g (pipedOf k m) a)))))
 
 -- WITHOUT LOGS
--- record and memory after a clock
+-- record and memory as an answer gives them back
+abbrev given : Pipeline × Memory → Pipeline × Memory
+given x = (x .0, through noWindow (x .1))
+
+-- after a clock
 unfoldable pub clocked : Pipeline × Memory → Pipeline × Memory
-clocked x = let p = clock (coreOf (x .0 .settings)) (pipedOf (x .0) (x .1)) in (p .pipeline, p .memory)
+clocked x = let p = clock (coreOf (x .0 .settings)) (pipedOf (x .0) (x .1)) in given (p .pipeline, p .memory)
 
 -- what so many clocks leave, though each logs
-clocks-moved : (k : Pipeline) (m : Memory) (n : ℕ) → let p = clocks (coreOf (k .settings)) (pipedOf k m) n in (p .pipeline, p .memory) ≡ moved clocked (k, m) n
+clocks-moved : (k : Pipeline) (m : Memory) (n : ℕ)
+    → let p = clocks (coreOf (k .settings)) (pipedOf k m) n in given (p .pipeline, p .memory) ≡ given (moved clocked (k, m) n)
 unfolding clocks moved clocked before
 clocks-moved k m zero = refl
 clocks-moved k m (suc n) =
     let g = coreOf (k .settings) in
     let p = clocks g (pipedOf k m) n in
     let bare = pipedOf (p .pipeline) (p .memory) in
-    ap (λ (t : Piped). (t .pipeline, t .memory)) (simp append-nil at (clock-before g (p .addressLog) (p .cycleLog) bare))
-    ∙ (ap (λ (x : Settings). let t = clock (coreOf x) bare in (t .pipeline, t .memory)) (sym (clocks-keep g (pipedOf k m) n))
+    ap (λ (t : Piped). given (t .pipeline, t .memory)) (ap (clock g) (anew g k m n) ∙ clock-before g (p .addressLog) (p .cycleLog) bare)
+    ∙ (ap (λ (x : Settings). let t = clock (coreOf x) bare in given (t .pipeline, t .memory)) (sym (clocks-keep g (pipedOf k m) n))
     ∙ ap clocked (clocks-moved k m n))
+
+-- a budget of 0 is refused
+none-made : (k : Pipeline) (m : Memory) → pipeRunUnlogged k m 0 .number ≡ 0 → ⊥
+unfolding pipeRunUnlogged pipeBy pipeRefusal lowest budgetRefused
+none-made k m h = go (sizeRefused (size m)) h
+  where
+    go : (b : Bool) → let n : ℕ = cond b 1 3 in
+        cond (eqb n 0) (pipeDone (clocks (coreOf (k .settings)) (pipedOf k m) 0) [] []) (pipeAnswer n k m [] []) .number ≡ 0 → ⊥
+    go true h = omega (arith, h)
+    go false h = omega (arith, h)
 
 pub ran-moved : (k : Pipeline) (m : Memory) (n : ℕ) → pipeRunUnlogged k m n .number ≡ 0
     → let o = pipeRunUnlogged k m n in (o .pipeline, o .memory) ≡ moved clocked (k, m) n
-unfolding pipeRunUnlogged pipeDone
-ran-moved k m n h = ap (λ (o : PipeAnswer). (o .pipeline, o .memory)) (done [] k m n [] [] h) ∙ clocks-moved k m n
+unfolding pipeRunUnlogged pipeDone moved clocked
+ran-moved k m zero h = absurd (none-made k m h)
+ran-moved k m (suc n) h = ap (λ (o : PipeAnswer). (o .pipeline, o .memory)) (done [] k m (suc n) [] [] h) ∙ clocks-moved k m (suc n)
 
 -- the pipelined engine without logs: `answers` `Joined` `joined` and `ones-join` hold of it, and a run of 1 is a clock
 unfoldable pub unlogged : Engine

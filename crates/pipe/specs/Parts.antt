@@ -1,6 +1,6 @@
 -- The record taken apart: what the code works on for the length of a run, in the words of clocked's Pipeline and PipeRuns.
 use Prim.Native.Nat.{ℕ}
-use mathlib.Core.Bool.{Bool, cond}
+use mathlib.Core.Bool.{Bool, cond, _||_}
 use mathlib.Core.List.{List, [], _∷_}
 use lib.Dec.{eqb}
 use lib.ListN.{length, set}
@@ -14,7 +14,7 @@ use Rattle.machine.specs.Fetch.{blameOf, noBlame}
 use Rattle.machine.specs.Memory.{Memory, size, Registers}
 use Rattle.clocked.specs.Prediction.{coreOf}
 use Rattle.clocked.specs.Pipeline.{pipedOf, clocks}
-use Rattle.machine.specs.Runs.{sizeRefused, budgetRefused, lowest}
+use Rattle.machine.specs.Runs.{sizeRefused, budgetRefused, windowRefused, lowest}
 use Rattle.clocked.specs.PipeRuns.{recordRefused, pipeLimit, PipeAnswer, pipeAnswer, pipeDone}
 use Rattle.flow.specs.declared.Flow.{Flow}
 use Rattle.flow.specs.Moving.{aheadOf}
@@ -73,7 +73,8 @@ noted b k x log = cond b (set log k x) log
 -- the lowest refusal, where short says that a lent log is shorter than the budget
 unfoldable pub refusalBy : Bool → Pipeline → (size budget : ℕ) → ℕ
 refusalBy short k size budget =
-    lowest ((1, sizeRefused size) ∷ (3, budgetRefused pipeLimit (k .cycles) budget) ∷ (4, short) ∷ (5, recordRefused k) ∷ [])
+    lowest ((1, sizeRefused size) ∷ (3, budgetRefused pipeLimit (k .cycles) budget) ∷ (4, short)
+    ∷ (5, recordRefused k || windowRefused (k .settings .window) size) ∷ [])
 
 -- the answer of every entry
 unfoldable pub answerBy : Bool → Pipeline → Memory → ℕ → List ℕ → List ℕ → PipeAnswer

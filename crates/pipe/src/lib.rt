@@ -18,6 +18,7 @@ use machine::Codes;
 use machine::Fault;
 use machine::REGISTERS;
 use machine::Status;
+use machine::Window;
 ghost use mathlib.Core.Path.{_≡_};
 ghost use mathlib.Core.List.{[]};
 ghost use Rattle.machine.specs.Memory.{lent};
@@ -40,6 +41,7 @@ pub fn as_in_01() -> Settings
     Settings {
         rule: 0,
         late: false,
+        window: Window::NoWindow,
     }
 }
 
@@ -70,6 +72,7 @@ pub fn start(
             loaduse: 0,
             mispredict: 0,
             returned: 0,
+            patched: 0,
         },
         kept: Kept::NoneKept,
         blame: Blame {

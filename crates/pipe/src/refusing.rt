@@ -2,6 +2,7 @@
 use answers::budget_refused;
 use answers::size_refused;
 use answers::start_refused;
+use answers::window_refused;
 use clocked::Kept;
 use clocked::PIPE_LIMIT;
 use clocked::Pipeline;
@@ -94,7 +95,9 @@ fn counts_refused(pipeline: Pipeline) -> bool
     let kinds = pipeline.kinds;
     let cycles = pipeline.cycles;
     (cycles < pipeline.retired)
-        | ((cycles < kinds.loaduse) | ((cycles < kinds.mispredict) | (cycles < kinds.returned)))
+        | ((cycles < kinds.loaduse)
+            | ((cycles < kinds.mispredict)
+                | ((cycles < kinds.returned) | (cycles < kinds.patched))))
 }
 
 // The rules have the numbers 0 to 2 (#105).
@@ -129,7 +132,8 @@ pub fn start_refusal(settings: Settings, size: usize, address: u64) -> u64
     if size_refused(size) {
         return 1;
     }
-    if settings_refused(settings) {
+    let window = settings.window;
+    if settings_refused(settings) | window_refused(window, size) {
         return 5;
     }
     if start_refused(size, address) {
@@ -151,7 +155,9 @@ pub fn refusal(pipeline: Pipeline, size: usize, budget: u64, short: bool) -> u64
     if short {
         return 4;
     }
-    if record_refused(pipeline) {
+    let settings = pipeline.settings;
+    let window = settings.window;
+    if record_refused(pipeline) | window_refused(window, size) {
         return 5;
     }
     0

@@ -11,6 +11,7 @@ use machine::Blame;
 use machine::Fault;
 use machine::REGISTERS;
 use machine::Status;
+use machine::Window;
 use retiring::Tally;
 use retiring::counted;
 use retiring::retires;
@@ -22,7 +23,7 @@ use stage::signals::wrong;
 ghost use mathlib.Core.Path.{_≡_};
 ghost use mathlib.Core.Bool.{false};
 ghost use Prim.Native.Nat.{_+_, _≤_};
-ghost use Rattle.machine.specs.Memory.{lent};
+ghost use Rattle.machine.specs.Memory.{lent, through};
 ghost use Rattle.clocked.specs.Prediction.{coreOf};
 ghost use Rattle.clocked.specs.Pipeline.{pipedOf, clocks};
 ghost use Rattle.clocked.specs.PipeRuns.{pipeLimit, pipeAnswer, pipeDone, countsRefused};
@@ -106,8 +107,8 @@ fn put_together(
 }
 
 // What the instruction in W is blamed on, if it stops the machine.
-fn blame_in(w: StageW, memory: &[u8]) -> Blame
-    ensures { λ r. ⌜ r ≡ blameIn w (lent (now (memory .entry))) ⌝ }
+fn blame_in(window: Window, w: StageW, memory: &[u8]) -> Blame
+    ensures { λ r. ⌜ r ≡ blameIn w (through window (lent (now (memory .entry)))) ⌝ }
 {
     match w {
         StageW::BubbleW => Blame {
@@ -116,7 +117,7 @@ fn blame_in(w: StageW, memory: &[u8]) -> Blame
         },
         StageW::InW(x) => {
             let i = x.instruction;
-            blame_of(memory, i)
+            blame_of(window, memory, i)
         }
     }
 }
@@ -143,6 +144,7 @@ pub fn looped(
         ≡ pipeDone (clocks (coreOf (pipeline .settings)) (pipedOf pipeline (lent (now (memory .entry)))) budget) (now (addresses .entry)) (now (cycles .entry)) ⌝ }
 {
     let settings = pipeline.settings;
+    let window = settings.window;
     let first = pipeline.retired;
     let mut registers = pipeline.registers;
     let mut flow = flow_of(pipeline);
@@ -163,7 +165,7 @@ pub fn looped(
         note(retired, place, tally.cycles, cycles);
         done += 1;
         if bad_in_w(w) {
-            blame = blame_in(w, memory);
+            blame = blame_in(window, w, memory);
             break; // everything else stays as it stood
         }
         flow = advance(settings, flow, &mut registers, memory);

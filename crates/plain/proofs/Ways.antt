@@ -10,6 +10,8 @@ use lib.Dec.{eqb, ltb}
 use lib.ListN.{length, set, length-append}
 use Rattle.machine.specs.declared.Status.{Status}
 use Rattle.machine.specs.declared.Status.the-variants.{Aok as aok}
+use Rattle.machine.specs.declared.Window.{Window}
+use Rattle.machine.specs.declared.Window.the-variants.{NoWindow as noWindow}
 use Rattle.machine.specs.declared.Codes.{Codes}
 use Rattle.machine.specs.declared.Instruction.{Instruction}
 use Rattle.machine.specs.declared.Decoded.{Decoded}
@@ -18,20 +20,30 @@ use Rattle.machine.specs.declared.Accessed.{Accessed}
 use Rattle.machine.specs.declared.Blame.{Blame}
 use Rattle.machine.specs.declared.Machine.{Machine}
 use Rattle.machine.specs.Types.{isBad}
-use Rattle.machine.specs.Memory.{Memory, size, value, written}
+use Rattle.machine.specs.Memory.{Memory, size, through, value, written}
 use Rattle.machine.specs.Fetch.{fetch, blameOf}
 use Rattle.machine.specs.Stages.{sourceA, sourceB, decode, execute, access, newCodes, newMemory, newRegisters, nextAddress, resultTarget, loadedTarget}
 use Rattle.machine.specs.Plain.{Plain, plainOf, isStopped, fetched, decoded, executed, accessed, performed, stoppedBy, step, steps}
-use Rattle.machine.specs.Runs.{laid, lowest, sizeRefused, budgetRefused, logRefused, plainLimit}
+use Rattle.machine.specs.Runs.{laid, lowest, sizeRefused, budgetRefused, logRefused, windowRefused, plainLimit}
 use Rattle.machine.specs.Runs.{plainRefusal, plainAnswer, plainDone, plainBy, plainRun, plainStep}
 use Rattle.plain.specs.Records.{withRegister, afterPerformed, afterStop, RunsTo}
 use Rattle.answers.specs.Refusals.{failed}
 use Rattle.laws.specs.Tests.{neither, or-false}
+use Rattle.laws.specs.Window.{written-through}
 use Rattle.answers.specs.Logs.{laid-more, laid-length}
-use Rattle.plain.specs.Steps.{bare, behind, step-bare, step-logs, step-counts, still-on}
+use Rattle.plain.specs.Steps.{bare, behind, seen, step-bare, step-logs, step-counts, still-on}
 
 pub changed : (m : Machine) (q v : ℕ) → q < 15
-    → record { registers = set (m .registers) q v; codes = m .codes; address = m .address; status = m .status; last = m .last; count = m .count; blame = m .blame }
+    → record {
+      registers = set (m .registers) q v;
+      codes = m .codes;
+      address = m .address;
+      status = m .status;
+      last = m .last;
+      count = m .count;
+      blame = m .blame;
+      window = m .window;
+    }
     ≡ withRegister m q v
 unfolding withRegister written
 changed m q v h = cc (lt-ltb q 15 h)
@@ -48,22 +60,32 @@ decoded-is m i p q a b e f g h = cc
 pub performed-is : (m one both : Machine) (x : Decoded) (w : Accessed) (t u a : ℕ) (c : Codes) → t ≡ resultTarget (w .instruction) (w .holds)
     → one ≡ withRegister m t (w .result) → u ≡ loadedTarget (w .instruction) → both ≡ withRegister one u (w .word) → c ≡ newCodes x (m .codes)
     → a ≡ nextAddress w
-    → record { registers = both .registers; codes = c; address = a; status = aok; last = m .address; count = m .count + 1; blame = m .blame } ≡ afterPerformed m x w
+    → record {
+      registers = both .registers;
+      codes = c;
+      address = a;
+      status = aok;
+      last = m .address;
+      count = m .count + 1;
+      blame = m .blame;
+      window = m .window;
+    } ≡ afterPerformed m x w
 unfolding afterPerformed withRegister newRegisters
 performed-is m one both x w t u a c e f g h k l = cc
 
 -- ONE INSTRUCTION
 module _ (m : Machine) (mem : Memory) (i : Instruction) (x : Decoded) (e : Executed) (w : Accessed) (b : Bool)
-    (runs : isBad (m .status) ≡ false) (hi : i ≡ fetch mem (m .address)) (hx : x ≡ decode i (value (m .registers))) (he : e ≡ execute x (m .codes))
-    (hw : w ≡ access e mem) (hb : b ≡ isBad (w .status)) where
-  pub stops : (r : Machine) (z : Blame) → b ≡ true → z ≡ blameOf mem i → r ≡ afterStop m (w .status) z → (r ≡ step (plainOf m mem) .machine) × (mem ≡ step (plainOf m mem) .memory)
+    (runs : isBad (m .status) ≡ false) (hi : i ≡ fetch (through (m .window) mem) (m .address)) (hx : x ≡ decode i (value (m .registers)))
+    (he : e ≡ execute x (m .codes)) (hw : w ≡ access e (through (m .window) mem)) (hb : b ≡ isBad (w .status)) where
+  pub stops : (r : Machine) (z : Blame) → b ≡ true → z ≡ blameOf (through (m .window) mem) i → r ≡ afterStop m (w .status) z
+      → (r ≡ step (plainOf m mem) .machine) × (through noWindow mem ≡ through noWindow (step (plainOf m mem) .memory))
   unfolding step isStopped accessed executed decoded fetched stoppedBy afterStop
   stops r z t hz q = (cc, cc)
 
   pub performs : (r : Machine) (mem′ : Memory) → b ≡ false → mem′ ≡ newMemory e mem → r ≡ afterPerformed m x w
-      → (r ≡ step (plainOf m mem) .machine) × (mem′ ≡ step (plainOf m mem) .memory)
+      → (r ≡ step (plainOf m mem) .machine) × (through noWindow mem′ ≡ through noWindow (step (plainOf m mem) .memory))
   unfolding step isStopped accessed executed decoded fetched performed afterPerformed
-  performs r mem′ t p q = (cc, cc)
+  performs r mem′ t p q = (cc, cc (written-through (m .window) e mem mem′ p))
 
 -- THE LOOP
 pub runs-on : (b : Bool) (x : Status) → b ≡ isBad x → not b ≡ true → isBad x ≡ false
@@ -80,7 +102,7 @@ pub record Goes (k : Machine) (m : Memory) (budget : ℕ) (l : List ℕ) (s : Ma
   pub memory-long : size m′ ≡ size m
   pub log-long : length l′ ≡ length l
 
-pub goes-first : (k : Machine) (m : Memory) (budget : ℕ) (l : List ℕ) → k .count + budget ≤ plainLimit → Goes k m budget l k m l 0
+pub goes-first : (k : Machine) (m : Memory) (budget : ℕ) (l : List ℕ) → k .count + budget ≤ plainLimit → Goes k m budget l k (through noWindow m) l 0
 unfolding steps laid
 goes-first k m budget l h =
     record {
@@ -105,7 +127,8 @@ module _ (k : Machine) (m : Memory) (budget : ℕ) (l : List ℕ) (s : Machine) 
   runs-now h = cc (g .so-far .machine-is)
 
   next-step : step now ≡ behind (now .log) (step (plainOf s m₁))
-  next-step = step-bare now ∙ ap (λ (x : Plain). behind (now .log) (step x)) bare-now
+  unfolding now
+  next-step = step-bare now (seen k m n) ∙ ap (λ (x : Plain). behind (now .log) (step x)) bare-now
 
   next-log : isBad (s .status) ≡ false → step now .log ≡ now .log ++ s .address ∷ []
   unfolding now
@@ -113,7 +136,7 @@ module _ (k : Machine) (m : Memory) (budget : ℕ) (l : List ℕ) (s : Machine) 
 
   pub goes-on : (b : Bool) (s₂ : Machine) (m₂ : Memory) (l₂ : List ℕ) → n < budget → b ≡ isBad (s .status) → not b ≡ true → size m₂ ≡ size m₁
       → l₂ ≡ set l₁ n (s .address)
-      → (s₂ ≡ step (plainOf s m₁) .machine) × (m₂ ≡ step (plainOf s m₁) .memory) → Goes k m budget l s₂ m₂ l₂ (n + 1)
+      → (s₂ ≡ step (plainOf s m₁) .machine) × (m₂ ≡ through noWindow (step (plainOf s m₁) .memory)) → Goes k m budget l s₂ m₂ l₂ (n + 1)
   unfolding now steps
   goes-on b s₂ m₂ l₂ lt hb t long hl hs =
       let run = runs-on b (s .status) hb t in
@@ -126,7 +149,7 @@ module _ (k : Machine) (m : Memory) (budget : ℕ) (l : List ℕ) (s : Machine) 
         so-far =
             record {
               machine-is = hs .0 ∙ sym (ap (λ (x : Plain). x .machine) (same ∙ next-step));
-              memory-is = hs .1 ∙ sym (ap (λ (x : Plain). x .memory) (same ∙ next-step));
+              memory-is = hs .1 ∙ sym (ap (λ (x : Plain). through noWindow (x .memory)) (same ∙ next-step));
               log-is = log-is ∙ sym (ap (λ (x : Plain). laid (x .log) l) same);
             };
         logged =
@@ -146,7 +169,7 @@ module _ (k : Machine) (m : Memory) (budget : ℕ) (l : List ℕ) (s : Machine) 
       let same = still-on (plainOf k m) n budget (g .within) stopped in
       record {
         machine-is = g .so-far .machine-is ∙ sym (ap (λ (x : Plain). x .machine) same);
-        memory-is = g .so-far .memory-is ∙ sym (ap (λ (x : Plain). x .memory) same);
+        memory-is = g .so-far .memory-is ∙ sym (ap (λ (x : Plain). through noWindow (x .memory)) same);
         log-is = g .so-far .log-is ∙ sym (ap (λ (x : Plain). laid (x .log) l) same);
       }
 
@@ -156,49 +179,55 @@ module _ (k : Machine) (m : Memory) (budget : ℕ) (l : List ℕ) (s : Machine) 
       rw e at (g .so-far)
 
 -- REFUSALS
-module _ (size count budget : ℕ) (short x : Bool) (hx : x ≡ sizeRefused size) where
-  pub refused-1 : x ≡ true → 1 ≡ lowest ((1, sizeRefused size) ∷ (3, budgetRefused plainLimit count budget) ∷ (4, short) ∷ [])
+module _ (v : Window) (size count budget : ℕ) (short x : Bool) (hx : x ≡ sizeRefused size) where
+  pub refused-1 : x ≡ true → 1 ≡ lowest ((1, sizeRefused size) ∷ (3, budgetRefused plainLimit count budget) ∷ (4, short) ∷ (5, windowRefused v size) ∷ [])
   unfolding lowest
   refused-1 t = cc
 
   module _ (y : Bool) (hy : y ≡ budgetRefused plainLimit count budget) (f : x ≡ false) where
-    pub refused-3 : y ≡ true → 3 ≡ lowest ((1, sizeRefused size) ∷ (3, budgetRefused plainLimit count budget) ∷ (4, short) ∷ [])
+    pub refused-3 : y ≡ true → 3 ≡ lowest ((1, sizeRefused size) ∷ (3, budgetRefused plainLimit count budget) ∷ (4, short) ∷ (5, windowRefused v size) ∷ [])
     unfolding lowest
     refused-3 u = cc
 
-    pub refused-4 : y ≡ false → short ≡ true → 4 ≡ lowest ((1, sizeRefused size) ∷ (3, budgetRefused plainLimit count budget) ∷ (4, short) ∷ [])
+    pub refused-4 : y ≡ false → short ≡ true → 4 ≡ lowest ((1, sizeRefused size) ∷ (3, budgetRefused plainLimit count budget) ∷ (4, short) ∷ (5, windowRefused v size) ∷ [])
     unfolding lowest
-    refused-4 u v = cc
+    refused-4 u t = cc
 
-    pub refused-0 : y ≡ false → short ≡ false → 0 ≡ lowest ((1, sizeRefused size) ∷ (3, budgetRefused plainLimit count budget) ∷ (4, short) ∷ [])
+    pub refused-5 : y ≡ false → short ≡ false → (z : Bool) → z ≡ windowRefused v size → z ≡ true
+        → 5 ≡ lowest ((1, sizeRefused size) ∷ (3, budgetRefused plainLimit count budget) ∷ (4, short) ∷ (5, windowRefused v size) ∷ [])
     unfolding lowest
-    refused-0 u v = cc
+    refused-5 u t z hz e = cc
+
+    pub refused-0 : y ≡ false → short ≡ false → (z : Bool) → z ≡ windowRefused v size → z ≡ false
+        → 0 ≡ lowest ((1, sizeRefused size) ∷ (3, budgetRefused plainLimit count budget) ∷ (4, short) ∷ (5, windowRefused v size) ∷ [])
+    unfolding lowest
+    refused-0 u t z hz e = cc
 
 -- THE ENTRIES, by the lengths of the logs that are lent
-pub one-log : (size count budget long n : ℕ) → n ≡ lowest ((1, sizeRefused size) ∷ (3, budgetRefused plainLimit count budget) ∷ (4, ltb long budget) ∷ [])
-    → n ≡ plainRefusal size count budget (long ∷ [])
+pub one-log : (v : Window) (size count budget long n : ℕ) → n ≡ lowest ((1, sizeRefused size) ∷ (3, budgetRefused plainLimit count budget) ∷ (4, ltb long budget) ∷ (5, windowRefused v size) ∷ [])
+    → n ≡ plainRefusal v size count budget (long ∷ [])
 unfolding plainRefusal logRefused
-one-log size count budget long n h = rw (or-false (ltb long budget)) h
+one-log v size count budget long n h = rw (or-false (ltb long budget)) h
 
-pub no-log : (size count budget n : ℕ) → n ≡ lowest ((1, sizeRefused size) ∷ (3, budgetRefused plainLimit count budget) ∷ (4, false) ∷ [])
-    → n ≡ plainRefusal size count budget []
+pub no-log : (v : Window) (size count budget n : ℕ) → n ≡ lowest ((1, sizeRefused size) ∷ (3, budgetRefused plainLimit count budget) ∷ (4, false) ∷ (5, windowRefused v size) ∷ [])
+    → n ≡ plainRefusal v size count budget []
 unfolding plainRefusal logRefused
-no-log size count budget n h = h
+no-log v size count budget n h = h
 
 laid-none : (es : List ℕ) → laid es [] ≡ []
 unfolding laid
 laid-none [] = refl
 laid-none (e ∷ es) = refl
 
-pub within-limit : (size count budget n : ℕ) (short : Bool) → n ≡ lowest ((1, sizeRefused size) ∷ (3, budgetRefused plainLimit count budget) ∷ (4, short) ∷ [])
+pub within-limit : (v : Window) (size count budget n : ℕ) (short : Bool) → n ≡ lowest ((1, sizeRefused size) ∷ (3, budgetRefused plainLimit count budget) ∷ (4, short) ∷ (5, windowRefused v size) ∷ [])
     → n ≡ 0 → count + budget ≤ plainLimit
 unfolding lowest budgetRefused
-within-limit size count budget n short h z =
+within-limit v size count budget n short h z =
     let p = failed (sizeRefused size) 0 _ (sym h ∙ z) in
     let q = failed (budgetRefused plainLimit count budget) 2 _ (p .1) in
     ltb-false plainLimit (count + budget) (neither (eqb budget 0) (ltb plainLimit (count + budget)) (q .0) .1)
 
-module _ (logs : List ℕ) (k : Machine) (m : Memory) (budget : ℕ) (log : List ℕ) (n : ℕ) (h : n ≡ plainRefusal (size m) (k .count) budget logs) where
+module _ (logs : List ℕ) (k : Machine) (m : Memory) (budget : ℕ) (log : List ℕ) (n : ℕ) (h : n ≡ plainRefusal (k .window) (size m) (k .count) budget logs) where
   pub refuses : (n ≡ 0 → ⊥) → plainAnswer n k m log ≡ plainBy logs k m budget log
   unfolding plainBy
   refuses z = cc (ne-eqb n 0 z)
@@ -208,27 +237,29 @@ module _ (logs : List ℕ) (k : Machine) (m : Memory) (budget : ℕ) (log : List
   ends z r m′ l′ e = cc (z, h, e .machine-is, e .memory-is, e .log-is)
 
 pub run-refuses : (k : Machine) (m : Memory) (budget : ℕ) (log : List ℕ) (n : ℕ)
-    → n ≡ lowest ((1, sizeRefused (size m)) ∷ (3, budgetRefused plainLimit (k .count) budget) ∷ (4, ltb (length log) budget) ∷ []) → (n ≡ 0 → ⊥)
+    → n ≡ lowest ((1, sizeRefused (size m)) ∷ (3, budgetRefused plainLimit (k .count) budget) ∷ (4, ltb (length log) budget)
+    ∷ (5, windowRefused (k .window) (size m)) ∷ []) → (n ≡ 0 → ⊥)
     → plainAnswer n k m log ≡ plainRun k m budget log
 unfolding plainRun
-run-refuses k m budget log n h z = refuses (length log ∷ []) k m budget log n (one-log (size m) (k .count) budget (length log) n h) z
+run-refuses k m budget log n h z = refuses (length log ∷ []) k m budget log n (one-log (k .window) (size m) (k .count) budget (length log) n h) z
 
 pub run-ends : (k : Machine) (m : Memory) (budget : ℕ) (log : List ℕ) (n : ℕ)
-    → n ≡ lowest ((1, sizeRefused (size m)) ∷ (3, budgetRefused plainLimit (k .count) budget) ∷ (4, ltb (length log) budget) ∷ []) → n ≡ 0
+    → n ≡ lowest ((1, sizeRefused (size m)) ∷ (3, budgetRefused plainLimit (k .count) budget) ∷ (4, ltb (length log) budget)
+    ∷ (5, windowRefused (k .window) (size m)) ∷ []) → n ≡ 0
     → (r : Machine) (m′ : Memory) (l′ : List ℕ) → RunsTo k m budget log r m′ l′ → plainAnswer 0 r m′ l′ ≡ plainRun k m budget log
 unfolding plainRun
-run-ends k m budget log n h z = ends (length log ∷ []) k m budget log n (one-log (size m) (k .count) budget (length log) n h) z
+run-ends k m budget log n h z = ends (length log ∷ []) k m budget log n (one-log (k .window) (size m) (k .count) budget (length log) n h) z
 
 pub step-refuses : (k : Machine) (m : Memory) (n : ℕ)
-    → n ≡ lowest ((1, sizeRefused (size m)) ∷ (3, budgetRefused plainLimit (k .count) 1) ∷ (4, false) ∷ []) → (n ≡ 0 → ⊥)
+    → n ≡ lowest ((1, sizeRefused (size m)) ∷ (3, budgetRefused plainLimit (k .count) 1) ∷ (4, false) ∷ (5, windowRefused (k .window) (size m)) ∷ []) → (n ≡ 0 → ⊥)
     → plainAnswer n k m [] ≡ plainStep k m
 unfolding plainStep
-step-refuses k m n h z = refuses [] k m 1 [] n (no-log (size m) (k .count) 1 n h) z
+step-refuses k m n h z = refuses [] k m 1 [] n (no-log (k .window) (size m) (k .count) 1 n h) z
 
 pub step-ends : (k : Machine) (m : Memory) (n : ℕ)
-    → n ≡ lowest ((1, sizeRefused (size m)) ∷ (3, budgetRefused plainLimit (k .count) 1) ∷ (4, false) ∷ []) → n ≡ 0
+    → n ≡ lowest ((1, sizeRefused (size m)) ∷ (3, budgetRefused plainLimit (k .count) 1) ∷ (4, false) ∷ (5, windowRefused (k .window) (size m)) ∷ []) → n ≡ 0
     → (own : List ℕ) (r : Machine) (m′ : Memory) (own′ : List ℕ) → RunsTo k m 1 own r m′ own′ → plainAnswer 0 r m′ [] ≡ plainStep k m
 unfolding plainStep
 step-ends k m n h z own r m′ own′ e =
-    ends [] k m 1 [] n (no-log (size m) (k .count) 1 n h) z r m′ []
+    ends [] k m 1 [] n (no-log (k .window) (size m) (k .count) 1 n h) z r m′ []
     (record { machine-is = e .machine-is; memory-is = e .memory-is; log-is = sym (laid-none _) })

@@ -4,7 +4,10 @@ use mathlib.Core.Bool.{Bool, true, false, cond}
 use mathlib.Core.List.{List, [], _∷_, _++_, append-nil, append-assoc}
 use Prim.Native.Nat.{ℕ, zero, suc, _+_, _-_, _≤_}
 use native.Mathlib.Omega.{arith}
+use Rattle.machine.specs.declared.Machine.{Machine}
 use Rattle.machine.specs.Types.{isBad}
+use Rattle.machine.specs.Memory.{Memory, through}
+use Rattle.laws.specs.Window.{steps-keep}
 use Rattle.machine.specs.Plain.{Plain, plainOf, isStopped, fetched, decoded, executed, accessed, performed, stoppedBy, step, steps}
 
 -- a state whose log so far is l
@@ -35,12 +38,21 @@ unfolding steps
 steps-behind l s zero = refl
 steps-behind l s (suc n) = ap step (steps-behind l s n) ∙ step-behind l (steps s n)
 
-bare-behind : (s : Plain) → s ≡ behind (s .log) (bare s)
-bare-behind s = ap (λ (x : List ℕ). record { machine = s .machine; memory = s .memory; log = x }) (sym (append-nil (s .log)))
+-- memory is seen through the record's window
+abbrev Seen : Plain → Type 0
+Seen s = s .memory .window ≡ s .machine .window
+
+pub seen : (k : Machine) (m : Memory) (n : ℕ) → Seen (steps (plainOf k m) n)
+seen k m n =
+    let keep = steps-keep (plainOf k m) n in
+    keep .0 ∙ sym (keep .1)
+
+bare-behind : (s : Plain) → Seen s → s ≡ behind (s .log) (bare s)
+bare-behind s h = simp append-nil (ap (λ w. record { machine = s .machine; memory = through w (s .memory); log = s .log }) h)
 
 -- a step, by what it does where nothing has been logged
-pub step-bare : (s : Plain) → step s ≡ behind (s .log) (step (bare s))
-step-bare s = ap step (bare-behind s) ∙ step-behind (s .log) (bare s)
+pub step-bare : (s : Plain) → Seen s → step s ≡ behind (s .log) (step (bare s))
+step-bare s h = ap step (bare-behind s h) ∙ step-behind (s .log) (bare s)
 
 pub steps-add : (s : Plain) (a b : ℕ) → steps s (b + a) ≡ steps (steps s a) b
 unfolding steps
@@ -51,8 +63,8 @@ steps-add s a (suc b) =
     let e : suc b + a ≡ suc (b + a) = omega arith in
     ap (steps s) e ∙ ap step (steps-add s a b)
 
-pub steps-bare : (s : Plain) (n : ℕ) → steps s n ≡ behind (s .log) (steps (bare s) n)
-steps-bare s n = ap (λ (x : Plain). steps x n) (bare-behind s) ∙ steps-behind (s .log) (bare s) n
+pub steps-bare : (s : Plain) (n : ℕ) → Seen s → steps s n ≡ behind (s .log) (steps (bare s) n)
+steps-bare s n h = ap (λ (x : Plain). steps x n) (bare-behind s h) ∙ steps-behind (s .log) (bare s) n
 
 -- a stopped machine stays
 pub still : (s : Plain) (n : ℕ) → isStopped s ≡ true → steps s n ≡ s

@@ -23,16 +23,18 @@ use machine::NONE;
 use machine::PLAIN_LIMIT;
 use machine::REGISTERS;
 use machine::Status;
+use machine::Window;
 ghost use mathlib.Core.Path.{_≡_};
 ghost use mathlib.Core.Bool.{false};
 ghost use mathlib.Core.List.{[], _∷_};
 ghost use Prim.Native.Nat.{ℕ, _+_, _≤_, _<_};
 ghost use Rattle.machine.specs.declared.Machine.{Machine as MachineOf};
+ghost use Rattle.machine.specs.declared.Window.the-variants.{NoWindow as noWindow};
 ghost use Rattle.machine.specs.Types.{isBad};
-ghost use Rattle.machine.specs.Memory.{lent, value as valueOf};
+ghost use Rattle.machine.specs.Memory.{lent, through, value as valueOf};
 ghost use Rattle.machine.specs.Stages.{decode};
 ghost use Rattle.machine.specs.Plain.{plainOf, step as stepOf};
-ghost use Rattle.machine.specs.Runs.{lowest, sizeRefused, budgetRefused, plainStarted, plainLimit, plainAnswer, plainRun, plainStep};
+ghost use Rattle.machine.specs.Runs.{lowest, sizeRefused, budgetRefused, windowRefused, plainStarted, plainLimit, plainAnswer, plainRun, plainStep};
 ghost use Rattle.plain.specs.Records.{withRegister, afterPerformed, afterStop, RunsTo};
 
 // What an entry answers: document 01's number, and the record.
@@ -42,8 +44,14 @@ pub struct Answer {
 }
 
 // A fresh start in memory of that size.
-pub fn start(size: usize, registers: [u64; REGISTERS], codes: Codes, address: u64) -> Answer
-    ensures { λ r. ⌜ _≡_ {A = ℕ × MachineOf} (r .number, r .machine) (plainStarted size registers codes address) ⌝ }
+pub fn start(
+    window: Window,
+    size: usize,
+    registers: [u64; REGISTERS],
+    codes: Codes,
+    address: u64,
+) -> Answer
+    ensures { λ r. ⌜ _≡_ {A = ℕ × MachineOf} (r .number, r .machine) (plainStarted window size registers codes address) ⌝ }
 {
     let fresh = Machine {
         registers,
@@ -56,9 +64,10 @@ pub fn start(size: usize, registers: [u64; REGISTERS], codes: Codes, address: u6
             fault: Fault::NoFault,
             address: 0,
         },
+        window,
     };
     Answer {
-        number: answers::start_refusal(size, address),
+        number: answers::start_refusal(window, size, address),
         machine: fresh,
     }
 }
@@ -101,6 +110,7 @@ fn after_performed(m: Machine, x: Decoded, w: Accessed) -> Machine
     let i = w.instruction;
     let codes = m.codes;
     let blame = m.blame;
+    let window = m.window;
     let target = result_target(i, w.holds);
     let loaded = loaded_target(i);
     let one = with_register(m, target, w.result);
@@ -115,6 +125,7 @@ fn after_performed(m: Machine, x: Decoded, w: Accessed) -> Machine
         last: m.address,
         count,
         blame,
+        window,
     }
 }
 
@@ -126,6 +137,7 @@ fn after_stop(m: Machine, status: Status, blame: Blame) -> Machine
     let registers = m.registers;
     let codes = m.codes;
     let count = m.count + 1;
+    let window = m.window;
     Machine {
         registers,
         codes,
@@ -134,6 +146,7 @@ fn after_stop(m: Machine, status: Status, blame: Blame) -> Machine
         last: m.address,
         count,
         blame,
+        window,
     }
 }
 
@@ -141,16 +154,17 @@ fn after_stop(m: Machine, status: Status, blame: Blame) -> Machine
 fn advance(m: Machine, memory: &mut [u8]) -> Machine
     requires { ⌜ (m .count < plainLimit) × (isBad (m .status) ≡ false) ⌝ }
     ensures { λ r. ⌜ (r ≡ stepOf (plainOf m (lent (now (memory .entry)))) .machine)
-        × (lent (now (memory .exit)) ≡ stepOf (plainOf m (lent (now (memory .entry)))) .memory) ⌝ }
+        × (lent (now (memory .exit)) ≡ through noWindow (stepOf (plainOf m (lent (now (memory .entry)))) .memory)) ⌝ }
 {
-    let i = instruction_at(memory, m.address);
+    let window = m.window;
+    let i = instruction_at(window, memory, m.address);
     let x = decoded(m, i);
     let codes = m.codes;
     let e = execute(x, codes);
-    let w = access(e, memory);
+    let w = access(e, window, memory);
     let status = w.status;
     if is_bad(status) {
-        return after_stop(m, status, blame_of(memory, i));
+        return after_stop(m, status, blame_of(window, memory, i));
     }
     update(e, memory);
     after_performed(m, x, w)
@@ -172,8 +186,8 @@ fn run_on(m: Machine, memory: &mut [u8], budget: u64, log: &mut [u64]) -> Machin
 }
 
 // The lowest refusal that applies, or 0.
-fn refusal(size: usize, count: u64, budget: u64, short: bool) -> u64
-    ensures { λ r. ⌜ r ≡ lowest ((1, sizeRefused size) ∷ (3, budgetRefused plainLimit count budget) ∷ (4, short) ∷ []) ⌝ }
+fn refusal(window: Window, size: usize, count: u64, budget: u64, short: bool) -> u64
+    ensures { λ r. ⌜ r ≡ lowest ((1, sizeRefused size) ∷ (3, budgetRefused plainLimit count budget) ∷ (4, short) ∷ (5, windowRefused window size) ∷ []) ⌝ }
 {
     if answers::size_refused(size) {
         return 1;
@@ -184,6 +198,9 @@ fn refusal(size: usize, count: u64, budget: u64, short: bool) -> u64
     if short {
         return 4;
     }
+    if answers::window_refused(window, size) {
+        return 5;
+    }
     0
 }
 
@@ -192,7 +209,9 @@ pub fn run(machine: Machine, memory: &mut [u8], budget: u64, log: &mut [u64]) ->
     ensures { λ r. ⌜ plainAnswer (r .number) (r .machine) (lent (now (memory .exit))) (now (log .exit))
         ≡ plainRun machine (lent (now (memory .entry))) budget (now (log .entry)) ⌝ }
 {
+    let window = machine.window;
     let number = refusal(
+        window,
         memory.len(),
         machine.count,
         budget,
@@ -212,7 +231,8 @@ pub fn run(machine: Machine, memory: &mut [u8], budget: u64, log: &mut [u64]) ->
 pub fn step(machine: Machine, memory: &mut [u8]) -> Answer
     ensures { λ r. ⌜ plainAnswer (r .number) (r .machine) (lent (now (memory .exit))) [] ≡ plainStep machine (lent (now (memory .entry))) ⌝ }
 {
-    let number = refusal(memory.len(), machine.count, 1, false);
+    let window = machine.window;
+    let number = refusal(window, memory.len(), machine.count, 1, false);
     if number != 0 {
         return Answer { number, machine };
     }

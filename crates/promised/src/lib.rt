@@ -6,6 +6,7 @@ use machine::Codes;
 use machine::FetchAnswer;
 use machine::Machine;
 use machine::REGISTERS;
+use machine::Window;
 ghost use mathlib.Core.List.{[]};
 ghost use Rattle.machine.specs.Memory.{lent};
 ghost use Rattle.machine.specs.Runs.{plainAnswer};
@@ -30,14 +31,15 @@ fn fetch(memory: &[u8], address: u64) -> FetchAnswer
 }
 
 fn plain_start(
+    window: Window,
     size: usize,
     registers: [u64; REGISTERS],
     codes: Codes,
     address: u64,
 ) -> plain::Answer
-    ensures { λ r. ⌜ Fits plain-start (size, registers, codes, address) (r .number, r .machine) ⌝ }
+    ensures { λ r. ⌜ Fits plain-start (window, size, registers, codes, address) (r .number, r .machine) ⌝ }
 {
-    plain::start(size, registers, codes, address)
+    plain::start(window, size, registers, codes, address)
 }
 
 fn plain_step(machine: Machine, memory: &mut [u8]) -> plain::Answer

@@ -7,7 +7,7 @@ use mathlib.Core.List.{[], _∷_, _++_}
 use lib.Seq.{set-set}
 use Rattle.machine.specs.Types.{isBad}
 use Rattle.machine.specs.Words.{sum, difference, placed}
-use Rattle.machine.specs.Memory.{Memory, lent, codeEnd, Registers, inside, load, store, value, written}
+use Rattle.machine.specs.Memory.{Memory, holding, codeEnd, Registers, inside, load, store, value, written}
 use Rattle.machine.specs.Table.{table, rowOf, is, unknownCode}
 use Rattle.machine.specs.Fetch.{namesA, namesB, half, faultAt, blameOf, noBlame, stopping}
 use Rattle.machine.specs.Stages
@@ -53,7 +53,17 @@ At s code = (isStopped s ≡ false) × (fetched s .status ≡ aok) × (icode s �
 abbrev pub after : Plain → Registers → Codes → Memory → ℕ → Status → Plain
 after s r c m a t =
     record {
-      machine = record { registers = r; codes = c; address = a; status = t; last = PC s; count = s .machine .count + 1; blame = s .machine .blame };
+      machine =
+          record {
+            registers = r;
+            codes = c;
+            address = a;
+            status = t;
+            last = PC s;
+            count = s .machine .count + 1;
+            blame = s .machine .blame;
+            window = s .machine .window;
+          };
       memory = m;
       log = s .log ++ PC s ∷ [];
     }
@@ -71,6 +81,7 @@ stopped s bad f =
             last = PC s;
             count = s .machine .count + 1;
             blame = f;
+            window = s .machine .window;
           };
       memory = s .memory;
       log = s .log ++ PC s ∷ [];
@@ -232,7 +243,7 @@ pub loaded : (m : Memory) (a : ℕ) → inside m a ≡ true → load m a ≡ M�
 unfolding load
 loaded m a h = rw h
 
-pub stored : (m : Memory) (a v : ℕ) → inside m a ≡ true → store m a v ≡ lent (placed 8 (m .bytes) a v)
+pub stored : (m : Memory) (a v : ℕ) → inside m a ≡ true → store m a v ≡ holding m (placed 8 (m .bytes) a v)
 unfolding store
 stored m a v h = rw h
 

@@ -11,10 +11,10 @@ use lib.ListN.{length, length-take, length-drop, getD, take, drop}
 use lib.Seq.{getD-take, getD-drop}
 use Rattle.machine.specs.Types.{isBad}
 use Rattle.machine.specs.Words.{sum, number}
-use Rattle.machine.specs.Memory.{Memory, size, codeEnd}
+use Rattle.machine.specs.Memory.{Memory, size, seenTo, codeEnd}
 use Rattle.machine.specs.Table.{Row, rowOf, table, unknownCode}
 use Rattle.machine.specs.Fetch.{sizeAt, ownBytes, stopping, checked, namesA, namesB, half, constantIn, parsed, fetch, misnamed}
-use Rattle.published.specs.Names.{Status, aok, hlt, Instruction, noFault}
+use Rattle.published.specs.Names.{Window, noWindow, within, Status, aok, hlt, Instruction, noFault}
 use Rattle.published.specs.Lengths.{length-rule, no-functions, two, parts, hasRegisterByte}
 
 -- M₁[a], a byte, and M₈[a], the eight bytes from a on
@@ -46,8 +46,12 @@ aokAt m a code =
 
 -- the bytes that an instruction may have are bytes of memory
 pub code-end-within : (m : Memory) (a : ℕ) → codeEnd m a ≤ size m
-unfolding codeEnd
-code-end-within m a = omega arith
+unfolding seenTo codeEnd
+code-end-within m a = go (m .window)
+  where
+    go : (w : Window) → seenTo w (size m) a ≤ size m
+    go noWindow = omega arith
+    go (within first end) = omega arith
 
 -- its own bytes are those of memory
 own : (m : Memory) (a n j : ℕ) → j < n → a + j < codeEnd m a → getD (take n (drop a (take (codeEnd m a) (m .bytes)))) j 0 ≡ M₁ m (a + j)

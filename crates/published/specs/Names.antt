@@ -6,4 +6,6 @@ pub use Rattle.machine.specs.declared.Fault.the-variants.{NoFault as noFault, F
 pub use Rattle.machine.specs.declared.Fault.the-variants.{LaterMissing as laterMissing, NoRegister as noRegister}
 pub use Rattle.machine.specs.declared.Blame.{Blame}
 pub use Rattle.machine.specs.declared.Codes.{Codes}
+pub use Rattle.machine.specs.declared.Window.{Window}
+pub use Rattle.machine.specs.declared.Window.the-variants.{NoWindow as noWindow, Within as within}
 pub use Rattle.machine.specs.declared.Instruction.{Instruction}

@@ -15,7 +15,7 @@ use Rattle.records.specs.Names.{Accessed, Machine, Pipeline, inW}
 
 -- "number, the record as given, nothing changed", by whatever number it is refused
 pub plain-unchanged : (logs : List ℕ) (k : Machine) (m : Memory) (budget : ℕ) (log : List ℕ)
-    → let n = plainRefusal (size m) (k .count) budget logs in
+    → let n = plainRefusal (k .window) (size m) (k .count) budget logs in
     eqb n 0 ≡ false → plainBy logs k m budget log ≡ plainAnswer n k m log
 unfolding plainBy
 plain-unchanged logs k m budget log h = rw h

@@ -12,7 +12,7 @@ use Rattle.machine.specs.Plain.{plainOf, plainStart}
 use Rattle.clocked.specs.Premise.{writesByte, hasByte}
 use Rattle.machine.specs.Runs.{startRefusal, plainStarted, PlainAnswer, plainAnswer, plainRefusal as plainRefuses, plainStep}
 use Rattle.clocked.specs.PipeRuns.{pipeStarted, pipeRefusal, pipeRunUnlogged, pipeClock}
-use Rattle.records.specs.Names.{Instruction, Machine, Status, aok, hlt, adr, ins}
+use Rattle.records.specs.Names.{Instruction, noWindow, Machine, Status, aok, hlt, adr, ins}
 use Rattle.records.specs.Given.{Change, rule, image, filled, empty, given, coded, fresh, with, stopped, counts, keeps, F, D, E, M, W, nop, cmov, operation, jump}
 use Rattle.records.specs.Given.{popq, iaddq, unknown, fetchedAs, instruction}
 use Rattle.records.specs.Looks.{Row, answers, numbers, ran, performed, refusal, status, last, retired, cycles, predicted, d, address}
@@ -46,7 +46,8 @@ counting s n f = answers s (pipeRunUnlogged (with (f ∷ [])) short 1) ((refusal
 
 -- a plain record: register rbx is 6, codes 7
 abbrev machine : (address : ℕ) → Status → (last count : ℕ) → Machine
-machine a s l n = record { registers = given ((3, 6) ∷ []); codes = coded 7; address = a; status = s; last = l; count = n; blame = noBlame }
+machine a s l n =
+    record { registers = given ((3, 6) ∷ []); codes = coded 7; address = a; status = s; last = l; count = n; blame = noBlame; window = noWindow }
 
 -- which of the bytes 0 to 3, and 8 to 11, and 16
 abbrev marks : (ℕ → ℕ) → List ℕ
@@ -72,11 +73,11 @@ rowsOfEntries =
     ((addressLog 0, 7) ∷ (addressLog 1, 9) ∷ (cycleLog 0, 1) ∷ (cycleLog 1, 9) ∷ [])
     ∷ ran "R2.9 a stopped machine logs nothing" (stopped hlt 3 ∷ W (nop 7) 0 true 0 aok ∷ []) short 2 (nines 2) (nines 2)
     ((refusal, 0) ∷ (cycles, 0) ∷ (addressLog 0, 9) ∷ (cycleLog 0, 9) ∷ [])
-    ∷ performed "R13.3 plain log: the rest stays" (plainStart (given []) (coded 4) 0) short 5 (nines 6)
+    ∷ performed "R13.3 plain log: the rest stays" (plainStart noWindow (given []) (coded 4) 0) short 5 (nines 6)
     ((plainRefusal, 0) ∷ (plainCount, 3) ∷ (plainLog 0, 0) ∷ (plainLog 1, 1) ∷ (plainLog 2, 2) ∷ (plainLog 3, 9) ∷ (plainLog 5, 9) ∷ [])
     ∷ performed "R13.3 plain log: the k-th of the call" (machine 1 aok 0 7) short 1 (nines 2) ((plainCount, 8) ∷ (plainLog 0, 1) ∷ (plainLog 1, 9) ∷ [])
     -- the plain engine's books
-    ∷ answers {A = PlainAnswer} "R2.8 plain: at a fresh start" (plainAnswer 0 (plainStart (given ((3, 6) ∷ [])) (coded 7) 77) empty [])
+    ∷ answers {A = PlainAnswer} "R2.8 plain: at a fresh start" (plainAnswer 0 (plainStart noWindow (given ((3, 6) ∷ [])) (coded 7) 77) empty [])
     ((plainAddress, 77) ∷ (plainLast, 77) ∷ (plainCount, 0) ∷ (plainStatus, 1) ∷ (plainCodes, 7) ∷ (plainRegister 3, 6) ∷ [])
     ∷ performed "R7.3 plain: the stopping one counts, is last, and the program address stays" (machine 2 aok 1 7) short 3 (nines 3)
     ((plainStatus, 2) ∷ (plainAddress, 2) ∷ (plainLast, 2) ∷ (plainCount, 8) ∷ (plainCodes, 7) ∷ (plainRegister 3, 6) ∷ (plainLog 0, 2) ∷ (plainLog 1, 9) ∷ [])
@@ -100,13 +101,13 @@ rowsOfEntries =
     ∷ refuses "R14.1 1: N is 0" 1 [] empty 1 (nines 1) (nines 1)
     ∷ refuses "R14.1 N is 1" 0 [] (filled 1 9) 1 (nines 1) (nines 1)
     ∷ numbers "R14.1 1: N is above 65,536" (pipeRefusal fresh 65536 1 [] ∷ pipeRefusal fresh 65537 1 [] ∷ []) (0 ∷ 1 ∷ [])
-    ∷ numbers "R14.1 plain: 1: N is above 65,536" (plainRefuses 65536 0 1 [] ∷ plainRefuses 65537 0 1 [] ∷ []) (0 ∷ 1 ∷ [])
+    ∷ numbers "R14.1 plain: 1: N is above 65,536" (plainRefuses noWindow 65536 0 1 [] ∷ plainRefuses noWindow 65537 0 1 [] ∷ []) (0 ∷ 1 ∷ [])
     -- a fresh start: 1, and 6 checked last
-    ∷ numbers "R14.7 a fresh start at N - 1, N and 2^64 - 1" (startRefusal 4096 4095 ∷ startRefusal 4096 4096 ∷ startRefusal 4096 (2 ^ 64 - 1) ∷ []) (0 ∷ 6 ∷ 6 ∷ [])
-    ∷ numbers "R14.7 the same at the limit" (startRefusal 65536 65535 ∷ startRefusal 65536 65536 ∷ startRefusal 65537 65536 ∷ []) (0 ∷ 6 ∷ 1 ∷ [])
-    ∷ numbers "R14.7 1 before 6" (startRefusal 0 0 ∷ startRefusal 65537 (2 ^ 64 - 1) ∷ []) (1 ∷ 1 ∷ [])
+    ∷ numbers "R14.7 a fresh start at N - 1, N and 2^64 - 1" (startRefusal noWindow 4096 4095 ∷ startRefusal noWindow 4096 4096 ∷ startRefusal noWindow 4096 (2 ^ 64 - 1) ∷ []) (0 ∷ 6 ∷ 6 ∷ [])
+    ∷ numbers "R14.7 the same at the limit" (startRefusal noWindow 65536 65535 ∷ startRefusal noWindow 65536 65536 ∷ startRefusal noWindow 65537 65536 ∷ []) (0 ∷ 6 ∷ 1 ∷ [])
+    ∷ numbers "R14.7 1 before 6" (startRefusal noWindow 0 0 ∷ startRefusal noWindow 65537 (2 ^ 64 - 1) ∷ []) (1 ∷ 1 ∷ [])
     ∷ numbers "R14.7 a start's number, and its record all the same"
-    (plainStarted 5 (given []) (coded 4) 5 .0 ∷ plainStarted 5 (given []) (coded 4) 5 .1 .address
+    (plainStarted noWindow 5 (given []) (coded 4) 5 .0 ∷ plainStarted noWindow 5 (given []) (coded 4) 5 .1 .address
     ∷ pipeStarted asIn01 5 (given []) (coded 4) 5 .0 ∷ pipeStarted asIn01 5 (given []) (coded 4) 5 .1 .predicted ∷ []) (6 ∷ 5 ∷ 6 ∷ 5 ∷ [])
     ∷ refuses "R14.7 a run that goes on from a record tests its address no more" 0 (F 3 ∷ []) short 1 (nines 1) (nines 1)
     ∷ refuses "R14.1 3: budget 0" 3 [] short 0 [] []

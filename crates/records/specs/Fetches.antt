@@ -7,7 +7,7 @@ use Rattle.machine.specs.Types.{statusNumber, faultNumber}
 use Rattle.machine.specs.Fetch.{fetch, blameOf}
 use Rattle.machine.specs.Plain.{plainStart}
 use Rattle.machine.specs.Runs.{fetchAnswer}
-use Rattle.records.specs.Names.{adr, ins, laterMissing, Instruction, FetchAnswer}
+use Rattle.records.specs.Names.{noWindow, adr, ins, laterMissing, Instruction, FetchAnswer}
 use Rattle.records.specs.Given.{image, filled, empty, given, coded, nop, popq, blamedFor, F, W}
 use Rattle.records.specs.Looks.{Row, Look, answers, clocked, numbers, predicted, d, address, fetchStatus, code, function, ra, rb, constant, next, fault}
 use Rattle.records.specs.Looks.{blamed, blamedAt, status, last, performed, plainFault, plainFaultAt, plainStatus}
@@ -133,11 +133,11 @@ rowsOfFetch =
     ∷ clocked "R4.5 the pipeline: an access outside has none" (W (popq 1 7) 0 true 0 adr ∷ []) (image 5 0 0) 1 ((status, 3) ∷ (last, 7) ∷ (blamed, 0) ∷ (blamedAt, 0) ∷ [])
     ∷ clocked "R4.5 the pipeline: what the instruction in W carries, and memory as it then is" (W (blamedFor laterMissing (nop 7)) 0 true 0 ins ∷ []) (image 20 0 0) 1
     ((status, 4) ∷ (last, 7) ∷ (blamed, 4) ∷ (blamedAt, 20) ∷ [])
-    ∷ performed "R4.5 the plain engine: function, none before it" (plainStart (given []) (coded 4) 0) (image 5 5 0x10_91_101010) 1 (0 ∷ []) ((plainFault, 0) ∷ [])
-    ∷ performed "R4.5 the plain engine: function" (plainStart (given []) (coded 4) 0) (image 5 5 0x10_91_101010) 2 (0 ∷ 0 ∷ [])
+    ∷ performed "R4.5 the plain engine: function, none before it" (plainStart noWindow (given []) (coded 4) 0) (image 5 5 0x10_91_101010) 1 (0 ∷ []) ((plainFault, 0) ∷ [])
+    ∷ performed "R4.5 the plain engine: function" (plainStart noWindow (given []) (coded 4) 0) (image 5 5 0x10_91_101010) 2 (0 ∷ 0 ∷ [])
     ((plainStatus, 4) ∷ (plainFault, 3) ∷ (plainFaultAt, 1) ∷ [])
-    ∷ performed "R4.5 the plain engine: halt has none" (plainStart (given []) (coded 4) 0) (image 5 1 0x10) 2 (0 ∷ 0 ∷ []) ((plainStatus, 2) ∷ (plainFault, 0) ∷ [])
-    ∷ performed "R4.5 the plain engine: an access outside has none" (plainStart (given []) (coded 4) 0) (image 5 2 0xb01f) 2 (0 ∷ 0 ∷ [])
+    ∷ performed "R4.5 the plain engine: halt has none" (plainStart noWindow (given []) (coded 4) 0) (image 5 1 0x10) 2 (0 ∷ 0 ∷ []) ((plainStatus, 2) ∷ (plainFault, 0) ∷ [])
+    ∷ performed "R4.5 the plain engine: an access outside has none" (plainStart noWindow (given []) (coded 4) 0) (image 5 2 0xb01f) 2 (0 ∷ 0 ∷ [])
     ((plainStatus, 3) ∷ (plainFault, 0) ∷ (plainFaultAt, 0) ∷ [])
     -- "An instruction fetched with status not AOK travels as a nop with that status; its predicted address is its own."
     ∷ clocked "R4.3 a bad fetch travels as a nop: INS" (F 1 ∷ []) (image 3 3 0x10_64_23) 1

@@ -9,7 +9,7 @@ use Rattle.machine.specs.Table.{unknownCode}
 use Rattle.clocked.specs.Prediction.{asIn01}
 use Rattle.clocked.specs.Pipeline.{pipeStart}
 use Rattle.records.specs.Names.{Status, aok, Fault, noFault, Codes, Instruction, StageD, inD, StageE, inE, StageM, inM, StageW, inW, Kept, lastKept, Kinds}
-use Rattle.records.specs.Names.{Settings, Pipeline}
+use Rattle.records.specs.Names.{Settings, noWindow, within, Pipeline}
 
 -- MEMORY
 -- the k bytes of a number in the order in which they are written
@@ -205,10 +205,14 @@ settled s k =
 
 -- the rule of that number, without late store data and with it
 abbrev pub rule : ℕ → Change
-rule n = settled (record { rule = n; late = false })
+rule n = settled (record { rule = n; late = false; window = noWindow })
 
 abbrev pub late : ℕ → Change
-late n = settled (record { rule = n; late = true })
+late n = settled (record { rule = n; late = true; window = noWindow })
+
+-- a code window, the other settings as they are
+abbrev pub window : (first end : ℕ) → Change
+window first end k = settled (record { rule = k .settings .rule; late = k .settings .late; window = within first end }) k
 
 -- F holds this address; D, E, M and W this instruction, with what it carries there
 abbrev pub F : ℕ → Change
@@ -224,7 +228,12 @@ abbrev pub M : Instruction → (valA result : ℕ) → (holds : Bool) → Change
 M i a e h k = stages (k .predicted) (k .d) (k .e) (inM (record { instruction = i; a = a; result = e; holds = h })) (k .w) k
 
 abbrev pub W : Instruction → (result : ℕ) → (holds : Bool) → (word : ℕ) → Status → Change
-W i e h v s k = stages (k .predicted) (k .d) (k .e) (k .m) (inW (record { instruction = i; result = e; holds = h; word = v; status = s })) k
+W i e h v s k = stages (k .predicted) (k .d) (k .e) (k .m) (inW (record { instruction = i; result = e; holds = h; word = v; status = s; patched = false })) k
+
+-- a store in W that wrote into the window
+abbrev pub patchingW : Instruction → (result : ℕ) → Change
+patchingW i e k =
+    stages (k .predicted) (k .d) (k .e) (k .m) (inW (record { instruction = i; result = e; holds = true; word = 0; status = aok; patched = true })) k
 
 abbrev pub file : Registers → Change
 file r k = values r (k .codes) k
@@ -240,11 +249,21 @@ abbrev pub stopped : Status → ℕ → Change
 stopped s a k = books s a (k .retired) (k .cycles) (k .kinds) (k .kept) k
 
 abbrev pub counts : (retired cycles loaduse mispredict returned : ℕ) → Change
-counts n y l m u k = books (k .status) (k .last) n y (record { loaduse = l; mispredict = m; returned = u }) (k .kept) k
+counts n y l m u k = books (k .status) (k .last) n y (record { loaduse = l; mispredict = m; returned = u; patched = 0 }) (k .kept) k
+
+-- the cycles charged behind stores into the window
+abbrev pub patches : ℕ → Change
+patches n k =
+    let t = k .kinds in
+    books (k .status) (k .last) (k .retired) (k .cycles) (record { loaduse = t .loaduse; mispredict = t .mispredict; returned = t .returned; patched = n }) (k .kept) k
 
 -- the instruction kept for its follower's charge
 abbrev pub keeps : Instruction → (holds : Bool) → Change
-keeps i h k = books (k .status) (k .last) (k .retired) (k .cycles) (k .kinds) (lastKept (record { instruction = i; holds = h })) k
+keeps i h k = books (k .status) (k .last) (k .retired) (k .cycles) (k .kinds) (lastKept (record { instruction = i; holds = h; patched = false })) k
+
+-- one that wrote into the window
+abbrev pub keepsPatching : Instruction → (holds : Bool) → Change
+keepsPatching i h k = books (k .status) (k .last) (k .retired) (k .cycles) (k .kinds) (lastKept (record { instruction = i; holds = h; patched = true })) k
 
 -- all changes, the first one last
 abbrev pub with : List Change → Pipeline

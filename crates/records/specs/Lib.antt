@@ -1,4 +1,4 @@
--- Rules that no fresh start shows. To be read: the rows of Fetches, Works, Clocks, Guesses, Late and Entries, with the notation of Given and Looks; Rows says
+-- Rules that no fresh start shows. To be read: the rows of Fetches, Works, Clocks, Guesses, Late, Patches and Entries, with the notation of Given and Looks; Rows says
 -- that they hold, and Always what holds of every record.
 pub mod Names
 pub mod Given
@@ -8,6 +8,7 @@ pub mod Works
 pub mod Clocks
 pub mod Guesses
 pub mod Late
+pub mod Patches
 pub mod Entries
 pub mod Rows
 pub mod Always

@@ -60,6 +60,9 @@ mispredict r = r .pipeline .kinds .mispredict
 abbrev pub returned : PipeAnswer → ℕ
 returned r = r .pipeline .kinds .returned
 
+abbrev pub patched : PipeAnswer → ℕ
+patched r = r .pipeline .kinds .patched
+
 abbrev pub byte : ℕ → PipeAnswer → ℕ
 byte a r = getD (r .memory .bytes) a 0
 
@@ -161,6 +164,12 @@ loaded = inStageW (λ x. x .word)
 
 abbrev pub statusW : PipeAnswer → ℕ
 statusW = inStageW (λ x. statusNumber (x .status))
+
+abbrev pub patchedW : PipeAnswer → ℕ
+patchedW = inStageW (λ x. bit (x .patched))
+
+abbrev pub keptPatched : PipeAnswer → ℕ
+keptPatched = ofKept (λ x. bit (x .patched))
 
 abbrev pub keptHeld : PipeAnswer → ℕ
 keptHeld = ofKept (λ x. bit (x .holds))

@@ -4,6 +4,8 @@ pub use Rattle.machine.specs.declared.Status.the-variants.{Aok as aok, Hlt as h
 pub use Rattle.machine.specs.declared.Fault.{Fault}
 pub use Rattle.machine.specs.declared.Fault.the-variants.{NoFault as noFault, NoFunction as noFunction, LaterMissing as laterMissing, NoRegister as noRegister}
 pub use Rattle.machine.specs.declared.Codes.{Codes}
+pub use Rattle.machine.specs.declared.Window.{Window}
+pub use Rattle.machine.specs.declared.Window.the-variants.{NoWindow as noWindow, Within as within}
 pub use Rattle.machine.specs.declared.Machine.{Machine}
 pub use Rattle.machine.specs.declared.Instruction.{Instruction}
 pub use Rattle.machine.specs.declared.FetchAnswer.{FetchAnswer}

@@ -13,7 +13,7 @@ use Rattle.clocked.specs.declared.StageW.the-variants.{BubbleW as bubbleW, InW 
 use Rattle.clocked.specs.declared.Kept.{Kept}
 use Rattle.clocked.specs.declared.Kept.the-variants.{NoneKept as noneKept, LastKept as lastKept}
 use Rattle.clocked.specs.declared.Reason.{Reason}
-use Rattle.clocked.specs.declared.Reason.the-variants.{Free as free, Waited as waited, WronglyGuessed as wronglyGuessed, Returned as returned}
+use Rattle.clocked.specs.declared.Reason.the-variants.{Free as free, Waited as waited, WronglyGuessed as wronglyGuessed, Returned as returned, Patched as patched}
 use Rattle.clocked.specs.declared.Kinds.{Kinds}
 use Rattle.machine.specs.Types.{isBad}
 use Rattle.machine.specs.Table.{is}
@@ -25,7 +25,11 @@ use Rattle.retiring.specs.declared.Tally.{Tally}
 use Rattle.retiring.specs.Retiring.{keptBy, retires, statusAfter, tallyAfter}
 
 -- why an instruction is charged, by its predecessor
-module _ (g : Core) (k : Retired) (j : Instruction) (l a s : ℕ) (b c : Bool) (el : l ≡ loadedTarget (k .instruction)) (ea : a ≡ awaitedA g j)
+pub patched-before : (g : Core) (k : Retired) (j : Instruction) → k .patched ≡ true → patched ≡ reasonBehind g k j
+unfolding reasonBehind
+patched-before g k j h = cc
+
+module _ (g : Core) (k : Retired) (j : Instruction) (l a s : ℕ) (b c : Bool) (whole : k .patched ≡ false) (el : l ≡ loadedTarget (k .instruction)) (ea : a ≡ awaitedA g j)
     (es : s ≡ sourceB j) (eb : b ≡ (meets l a || meets l s)) where
   pub loaded-before : b ≡ true → waited ≡ reasonBehind g k j
   unfolding reasonBehind loadUse
@@ -59,30 +63,35 @@ unfolding counted
 none-counted t r h = cc
 
 pub wait-counted : (t : Kinds) (r : Reason) → r ≡ waited
-    → record { loaduse = t .loaduse + 1; mispredict = t .mispredict; returned = t .returned } ≡ counted t r
+    → record { loaduse = t .loaduse + 1; mispredict = t .mispredict; returned = t .returned; patched = t .patched } ≡ counted t r
 unfolding counted
 wait-counted t r h = cc
 
 pub guess-counted : (t : Kinds) (r : Reason) → r ≡ wronglyGuessed
-    → record { loaduse = t .loaduse; mispredict = t .mispredict + 2; returned = t .returned } ≡ counted t r
+    → record { loaduse = t .loaduse; mispredict = t .mispredict + 2; returned = t .returned; patched = t .patched } ≡ counted t r
 unfolding counted
 guess-counted t r h = cc
 
 pub return-counted : (t : Kinds) (r : Reason) → r ≡ returned
-    → record { loaduse = t .loaduse; mispredict = t .mispredict; returned = t .returned + 3 } ≡ counted t r
+    → record { loaduse = t .loaduse; mispredict = t .mispredict; returned = t .returned + 3; patched = t .patched } ≡ counted t r
 unfolding counted
 return-counted t r h = cc
+
+pub patch-counted : (t : Kinds) (r : Reason) → r ≡ patched
+    → record { loaduse = t .loaduse; mispredict = t .mispredict; returned = t .returned; patched = t .patched + 3 } ≡ counted t r
+unfolding counted
+patch-counted t r h = cc
 
 pub keeps : (x : Accessed) (k l : Kept) (b : Bool) → b ≡ isBad (x .status) → b ≡ true → l ≡ k → l ≡ keptBy x k
 unfolding keptBy
 keeps x k l b e h p = cc
 
 pub kept-now : (x : Accessed) (k : Kept) (i : Instruction) (b : Bool) → b ≡ isBad (x .status) → b ≡ false → i ≡ x .instruction
-    → lastKept (record { instruction = i; holds = x .holds }) ≡ keptBy x k
+    → lastKept (record { instruction = i; holds = x .holds; patched = x .patched }) ≡ keptBy x k
 unfolding keptBy retiredOf
 kept-now x k i b e h p = cc
 
-pub kept-afresh : (k : Kept) (r : Retired) (i : Instruction) → k ≡ lastKept r → i ≡ r .instruction → lastKept (record { instruction = i; holds = r .holds }) ≡ k
+pub kept-afresh : (k : Kept) (r : Retired) (i : Instruction) → k ≡ lastKept r → i ≡ r .instruction → lastKept (record { instruction = i; holds = r .holds; patched = r .patched }) ≡ k
 kept-afresh k r i h p = rw (h, p)
 
 pub only-a-cycle : (g : Core) (t : Tally) (w : StageW) (k : Kept) → w ≡ bubbleW → k ≡ t .kept

@@ -47,3 +47,4 @@ pub record Small (n : ℕ) (t : Tally) : Type 0 where
   pub loaduse : t .kinds .loaduse < n
   pub mispredict : t .kinds .mispredict < n
   pub returned : t .kinds .returned < n
+  pub patched : t .kinds .patched < n

@@ -36,6 +36,9 @@ fn reason_behind(settings: Settings, k: Retired, j: Instruction) -> Reason
     ensures { λ r. ⌜ r ≡ reasonBehind (coreOf settings) k j ⌝ }
 {
     let i = k.instruction;
+    if k.patched {
+        return Reason::Patched;
+    }
     if meets_either(loaded_target(i), awaited_a(settings, j), source_b(j)) {
         return Reason::Waited;
     }
@@ -60,7 +63,7 @@ fn reason_from(settings: Settings, kept: Kept, j: Instruction) -> Reason
 
 // "The cycle counts kept by kind sum the charges."
 fn count(kinds: Kinds, reason: Reason) -> Kinds
-    requires { ⌜ (kinds .loaduse < 2000000) × (kinds .mispredict < 2000000) × (kinds .returned < 2000000) ⌝ }
+    requires { ⌜ (kinds .loaduse < 2000000) × (kinds .mispredict < 2000000) × (kinds .returned < 2000000) × (kinds .patched < 2000000) ⌝ }
     ensures { λ r. ⌜ r ≡ countedOf kinds reason ⌝ }
 {
     match reason {
@@ -69,16 +72,25 @@ fn count(kinds: Kinds, reason: Reason) -> Kinds
             loaduse: kinds.loaduse + 1,
             mispredict: kinds.mispredict,
             returned: kinds.returned,
+            patched: kinds.patched,
         },
         Reason::WronglyGuessed => Kinds {
             loaduse: kinds.loaduse,
             mispredict: kinds.mispredict + 2,
             returned: kinds.returned,
+            patched: kinds.patched,
         },
         Reason::Returned => Kinds {
             loaduse: kinds.loaduse,
             mispredict: kinds.mispredict,
             returned: kinds.returned + 3,
+            patched: kinds.patched,
+        },
+        Reason::Patched => Kinds {
+            loaduse: kinds.loaduse,
+            mispredict: kinds.mispredict,
+            returned: kinds.returned,
+            patched: kinds.patched + 3,
         },
     }
 }
@@ -94,6 +106,7 @@ fn still_kept(kept: Kept) -> Kept
             Kept::LastKept(Retired {
                 instruction: afresh(i),
                 holds: k.holds,
+                patched: k.patched,
             })
         }
     }
@@ -111,6 +124,7 @@ fn kept_by(x: Accessed, kept: Kept) -> Kept
     Kept::LastKept(Retired {
         instruction: afresh(i),
         holds: x.holds,
+        patched: x.patched,
     })
 }
 

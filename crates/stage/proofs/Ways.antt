@@ -14,7 +14,7 @@ use Rattle.machine.specs.Memory.{Memory, Registers, value, written}
 use Rattle.machine.specs.Table.{is}
 use Rattle.machine.specs.Stages.{execute, access, newCodes, newMemory, sourceA, sourceB, resultTarget, loadedTarget, turned, straight}
 use Rattle.clocked.specs.Prediction.{Core, coreOf, rule, guess, predictedNext, mispredicted, meets, takesLate, awaitedA}
-use Rattle.clocked.specs.Pipeline.{handedA, handed, afterE, afterM, codesAfter, memoryAfter, wrong, retInD, retInE, retInM, badInW, returnedTo}
+use Rattle.clocked.specs.Pipeline.{handedA, handed, afterE, afterM, codesAfter, memoryAfter, wrong, retInD, retInE, retInM, badInW, patchedInW, returnedTo, restart}
 use Rattle.stage.specs.Addresses.{mendedBy}
 use Rattle.stage.specs.declared.forwarding.Targets.{Targets}
 use Rattle.stage.specs.declared.forwarding.Sources.{Sources}
@@ -302,6 +302,32 @@ goes-on b x y v h p = cc
 
 pub cancels-d : (d : StageD) (m : Bool) → m ≡ true → bubbleD ≡ cond m bubbleD d
 cancels-d d m h = cc
+
+-- behind a store into the window
+pub unpatched : (w : StageW) → w ≡ bubbleW → false ≡ patchedInW w
+unfolding patchedInW
+unpatched w h = cc
+
+pub patched-w : (w : StageW) (x : Accessed) → w ≡ inW x → x .patched ≡ patchedInW w
+unfolding patchedInW
+patched-w w x h = cc
+
+pub no-restart : (m : StageM) (f : ℕ) → m ≡ bubbleM → f ≡ restart m f
+unfolding restart
+no-restart m f h = cc
+
+pub restarts : (m : StageM) (f : ℕ) (x : Executed) (a : ℕ) → m ≡ inM x → a ≡ straight (x .instruction) → a ≡ restart m f
+unfolding restart
+restarts m f x a h e = cc
+
+pub restarts-f : (z h : Bool) (a b r p : ℕ) → z ≡ true → a ≡ r → a ≡ cond z r (cond h b p)
+restarts-f z h a b r p e k = cc
+
+pub holds-f : (z h : Bool) (b r p : ℕ) → z ≡ false → h ≡ true → b ≡ cond z r (cond h b p)
+holds-f z h b r p e k = cc
+
+pub moves-f : (z h : Bool) (a b r p : ℕ) → z ≡ false → h ≡ false → a ≡ p → a ≡ cond z r (cond h b p)
+moves-f z h a b r p e k q = cc
 
 pub holds-d : (d e : StageD) (i : Instruction) (m w r : Bool) → m ≡ false → w ≡ true → e ≡ d → e ≡ cond m bubbleD (cond w d (cond r bubbleD (inD i)))
 holds-d d e i m w r f g p = cc

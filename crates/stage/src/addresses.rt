@@ -10,7 +10,7 @@ use machine::JUMP;
 use machine::RET;
 ghost use mathlib.Core.Path.{_≡_};
 ghost use Rattle.clocked.specs.Prediction.{coreOf, predictedNext};
-ghost use Rattle.clocked.specs.Pipeline.{returnedTo};
+ghost use Rattle.clocked.specs.Pipeline.{returnedTo, restart as restartOf};
 ghost use Rattle.stage.specs.Addresses.{mendedBy};
 
 // The word that ret in W read, else the predicted address.
@@ -51,6 +51,19 @@ pub fn fetch_address(wrong: bool, m: StageM, w: StageW, predicted: u64) -> u64
     ensures { λ r. ⌜ r ≡ mendedBy wrong m (returnedTo w predicted) ⌝ }
 {
     mended(wrong, m, returned_to(w, predicted))
+}
+
+// Behind a store into the window fetch restarts at the instruction that follows the store.
+pub fn restart(m: StageM, otherwise: u64) -> u64
+    ensures { λ r. ⌜ r ≡ restartOf m otherwise ⌝ }
+{
+    match m {
+        StageM::BubbleM => otherwise,
+        StageM::InM(x) => {
+            let i = x.instruction;
+            straight(i)
+        }
+    }
 }
 
 pub fn predicted_next(settings: Settings, i: Instruction) -> u64

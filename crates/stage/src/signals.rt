@@ -12,7 +12,7 @@ use machine::RET;
 ghost use mathlib.Core.Path.{_≡_};
 ghost use mathlib.Core.Bool.{_||_};
 ghost use Rattle.clocked.specs.Prediction.{coreOf, guess as guessOf, meets as meetsOf, mispredicted as mispredictedOf, takesLate};
-ghost use Rattle.clocked.specs.Pipeline.{wrong as wrongOf, retInD, retInE, retInM, badInW};
+ghost use Rattle.clocked.specs.Pipeline.{wrong as wrongOf, retInD, retInE, retInM, badInW, patchedInW};
 
 // The rules that do not guess every jump taken (#105).
 const NEVER: u8 = 1;
@@ -128,5 +128,15 @@ pub fn bad_in_w(w: StageW) -> bool
             let status = x.status;
             is_bad(status)
         }
+    }
+}
+
+// A store into the window: in W, or in M after its access.
+pub fn patched_in_w(w: StageW) -> bool
+    ensures { λ r. ⌜ r ≡ patchedInW w ⌝ }
+{
+    match w {
+        StageW::BubbleW => false,
+        StageW::InW(x) => x.patched,
     }
 }

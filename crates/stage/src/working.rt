@@ -17,8 +17,9 @@ use isa::executing::new_codes;
 use machine::Codes;
 use machine::Decoded;
 use machine::REGISTERS;
+use machine::Window;
 ghost use mathlib.Core.Path.{_≡_};
-ghost use Rattle.machine.specs.Memory.{lent};
+ghost use Rattle.machine.specs.Memory.{lent, through};
 ghost use Rattle.clocked.specs.Prediction.{coreOf};
 ghost use Rattle.clocked.specs.Pipeline.{afterE, afterM, handedA, handed, codesAfter, memoryAfter};
 ghost use Rattle.stage.specs.Forwarding.{writtenBy};
@@ -65,12 +66,13 @@ pub fn after_e(settings: Settings, w: StageW, e: StageE, codes: Codes) -> StageM
 }
 
 // M's instruction after its access, and the clock's write: nothing else reads memory from here on.
-pub fn after_m(m: StageM, memory: &mut [u8]) -> StageW
-    ensures { λ r. ⌜ (r ≡ afterM m (lent (now (memory .entry)))) × (lent (now (memory .exit)) ≡ memoryAfter m (lent (now (memory .entry)))) ⌝ }
+pub fn after_m(window: Window, m: StageM, memory: &mut [u8]) -> StageW
+    ensures { λ r. ⌜ (r ≡ afterM m (through window (lent (now (memory .entry)))))
+        × (through window (lent (now (memory .exit))) ≡ memoryAfter m (through window (lent (now (memory .entry))))) ⌝ }
 {
     match m {
         StageM::BubbleM => StageW::BubbleW,
-        StageM::InM(x) => StageW::InW(access_and_update(x, memory)),
+        StageM::InM(x) => StageW::InW(access_and_update(x, window, memory)),
     }
 }
 

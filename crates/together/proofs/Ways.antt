@@ -4,6 +4,7 @@ use mathlib.Core.Path.{_≡_, sym, subst}
 use mathlib.Core.List.{List}
 use borrow.Author.Tests.{eq-eqb, ne-eqb}
 use lib.ListN.{length}
+use Rattle.machine.specs.declared.Window.{Window}
 use Rattle.machine.specs.declared.Codes.{Codes}
 use Rattle.machine.specs.declared.Machine.{Machine}
 use Rattle.clocked.specs.declared.Settings.{Settings}
@@ -16,12 +17,12 @@ use Rattle.together.specs.Both.{plainFresh, pipeFresh, BothAnswer, bothA
 
 -- FRESH RUNS
 module _ (r : Registers) (c : Codes) (a : ℕ) (m : Memory) (budget : ℕ) (n : ℕ) where
-  module _ (log : List ℕ) (k : Machine) (e : _≡_ {A = ℕ × Machine} (n, k) (plainStarted (size m) r c a)) where
-    pub plain-refused : (n ≡ 0 → ⊥) → plainAnswer n k m log ≡ plainFresh r c a m budget log
+  module _ (w : Window) (log : List ℕ) (k : Machine) (e : _≡_ {A = ℕ × Machine} (n, k) (plainStarted w (size m) r c a)) where
+    pub plain-refused : (n ≡ 0 → ⊥) → plainAnswer n k m log ≡ plainFresh w r c a m budget log
     unfolding plainFresh
     plain-refused z = rw (← e, ne-eqb n 0 z)
 
-    pub plain-runs : (x : PlainAnswer) → n ≡ 0 → x ≡ plainRun k m budget log → x ≡ plainFresh r c a m budget log
+    pub plain-runs : (x : PlainAnswer) → n ≡ 0 → x ≡ plainRun k m budget log → x ≡ plainFresh w r c a m budget log
     unfolding plainFresh
     plain-runs x z h = rw (← e, eq-eqb n 0 z) h
 
@@ -36,7 +37,7 @@ module _ (r : Registers) (c : Codes) (a : ℕ) (m : Memory) (budget : ℕ) (n : 
 
 -- BOTH
 pub both-ran : (t : Start) (copy : Memory) (budget clocked : ℕ) (log addresses cycles : List ℕ) → length (t .registers) ≡ 15
-    → (x : PlainAnswer) → x ≡ plainFresh (t .registers) (t .codes) (t .address) (t .memory) budget log
+    → (x : PlainAnswer) → x ≡ plainFresh (t .settings .window) (t .registers) (t .codes) (t .address) (t .memory) budget log
     → (y : PipeAnswer) → y ≡ pipeFresh (t .settings) (t .registers) (t .codes) (t .address) copy clocked addresses cycles
     → RunsBoth t copy budget clocked log addresses cycles (bothAnswer x y)
 unfolding bothRuns

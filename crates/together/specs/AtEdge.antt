@@ -12,7 +12,7 @@ use Rattle.machine.specs.Plain.{Plain, isStopped, steps}
 use Rattle.clocked.specs.Charges.{due}
 use Rattle.clocked.specs.Prediction.{core01, asIn01}
 use Rattle.clocked.specs.Pipeline.{Piped, pipeStart, clocks}
-use Rattle.clocked.specs.Premise.{Untouched}
+use Rattle.clocked.specs.Premise.{Premise}
 use Rattle.clocked.specs.PipeRuns.{PipeAnswer, pipeDone}
 use Rattle.account.specs.Statement.{Start, plainFrom, pipedFrom, DueBy, Agrees}
 use Rattle.account.specs.Theorem.{demand3}
@@ -69,7 +69,7 @@ module _ (memory registers result : List ℕ) (start codes budget : ℕ) where
         times false e = a .running (ap isBad (a .status) ∙ e)
 
     -- with the premise up to instruction k + 1 and no clock past its due cycle: registers, status, last address, retired and cycles
-    pub edge-shows : (k : ℕ) → Untouched (plainFrom lent) (suc k) → budget ≤ due core01 (plainFrom lent) (suc k)
+    pub edge-shows : (k : ℕ) → Premise (plainFrom lent) (suc k) → budget ≤ due core01 (plainFrom lent) (suc k)
         → (n : ℕ) × DueBy core01 (plainFrom lent) budget n
         × (answered ≡ shown (plainFrom lent) budget n (piped .memory) (piped .pipeline .codes) registers result)
     unfolding wordsIn
@@ -78,7 +78,7 @@ module _ (memory registers result : List ℕ) (start codes budget : ℕ) where
         (x .0, x .1 .exactly, shows (x .0) (x .1))
 
     -- with two cycles to spare memory and codes too: ahead by the instructions that are due one cycle later, and two
-    pub edge-ahead : (k : ℕ) → Untouched (plainFrom lent) (suc k) → budget + 2 < due core01 (plainFrom lent) (suc k)
+    pub edge-ahead : (k : ℕ) → Premise (plainFrom lent) (suc k) → budget + 2 < due core01 (plainFrom lent) (suc k)
         → (n a b : ℕ) × DueBy core01 (plainFrom lent) budget n × DueBy core01 (plainFrom lent) (budget + 1) a × DueBy core01 (plainFrom lent) (budget + 2) b
         × (answered ≡ shown (plainFrom lent) budget n (steps (plainFrom lent) a .memory) (steps (plainFrom lent) b .machine .codes) registers result)
     unfolding wordsIn
@@ -90,7 +90,7 @@ module _ (memory registers result : List ℕ) (start codes budget : ℕ) where
     -- THE STOP: with the premise over the n instructions up to it, and a budget that reaches the cycle in which the last of them is due,
     -- whatever that budget is
     pub edge-stops : (n : ℕ) → ((i : ℕ) → i < n → isStopped (steps (plainFrom lent) i) ≡ false) → isStopped (steps (plainFrom lent) n) ≡ true
-        → Untouched (plainFrom lent) n → due core01 (plainFrom lent) n ≤ budget
+        → Premise (plainFrom lent) n → due core01 (plainFrom lent) n ≤ budget
         → answered ≡ shown (plainFrom lent) budget n (steps (plainFrom lent) n .memory) (steps (plainFrom lent) n .machine .codes) registers result
     unfolding wordsIn isStopped
     edge-stops n f b u q =

@@ -5,6 +5,7 @@ use mathlib.Core.Path.{_≡_, refl, sym, subst}
 use mathlib.Core.List.{List}
 use lib.Dec.{eqb}
 use lib.ListN.{length}
+use Rattle.machine.specs.declared.Window.{Window}
 use Rattle.machine.specs.declared.Codes.{Codes}
 use Rattle.clocked.specs.declared.Settings.{Settings}
 use Rattle.machine.specs.Memory.{Memory, size, Registers}
@@ -18,9 +19,9 @@ abbrev pub startOf : Settings → Registers → Codes → ℕ → Memory → Sta
 startOf s r c a m = record { settings = s; registers = r; codes = c; address = a; memory = m }
 
 -- A FRESH RUN: started, and run where the start is not refused
-unfoldable pub plainFresh : Registers → Codes → ℕ → Memory → ℕ → List ℕ → PlainAnswer
-plainFresh r c a m budget log =
-    let s = plainStarted (size m) r c a in
+unfoldable pub plainFresh : Window → Registers → Codes → ℕ → Memory → ℕ → List ℕ → PlainAnswer
+plainFresh w r c a m budget log =
+    let s = plainStarted w (size m) r c a in
     cond (eqb (s .0) 0) (plainRun (s .1) m budget log) (plainAnswer (s .0) (s .1) m log)
 
 unfoldable pub pipeFresh : Settings → Registers → Codes → ℕ → Memory → ℕ → List ℕ → List ℕ → PipeAnswer
@@ -39,7 +40,7 @@ bothAnswer x y = record { plain = x; pipe = y }
 -- "Start both alike", and run each: the plain engine in the start's memory, the pipeline in the copy
 unfoldable pub bothRuns : Start → (copy : Memory) → (budget clocked : ℕ) → (log addresses cycles : List ℕ) → BothAnswer
 bothRuns t copy budget clocked log addresses cycles =
-    bothAnswer (plainFresh (t .registers) (t .codes) (t .address) (t .memory) budget log)
+    bothAnswer (plainFresh (t .settings .window) (t .registers) (t .codes) (t .address) (t .memory) budget log)
     (pipeFresh (t .settings) (t .registers) (t .codes) (t .address) copy clocked addresses cycles)
 
 -- DEMAND 3 OF THE TWO ANSWERS: where the copy is one and neither run is refused, they agree as far as the premise reaches
@@ -54,10 +55,10 @@ pub record RunsBoth (t : Start) (copy : Memory) (budget clocked : ℕ) (log addr
   pub agree : AsDemanded t copy budget clocked r
 
 -- what was not refused was run
-plain-ran : (t : Start) (budget : ℕ) (log : List ℕ) → plainFresh (t .registers) (t .codes) (t .address) (t .memory) budget log .number ≡ 0
-    → plainFresh (t .registers) (t .codes) (t .address) (t .memory) budget log ≡ plainAnswered t budget log
+plain-ran : (t : Start) (budget : ℕ) (log : List ℕ) → plainFresh (t .settings .window) (t .registers) (t .codes) (t .address) (t .memory) budget log .number ≡ 0
+    → plainFresh (t .settings .window) (t .registers) (t .codes) (t .address) (t .memory) budget log ≡ plainAnswered t budget log
 unfolding plainFresh plainStarted plainFrom
-plain-ran t budget log h = ran (λ (x : PlainAnswer). x .number) (startRefusal (size (t .memory)) (t .address)) _ _ refl h
+plain-ran t budget log h = ran (λ (x : PlainAnswer). x .number) (startRefusal (t .settings .window) (size (t .memory)) (t .address)) _ _ refl h
 
 pipe-ran : (t : Start) (clocked : ℕ) (addresses cycles : List ℕ)
     → pipeFresh (t .settings) (t .registers) (t .codes) (t .address) (t .memory) clocked addresses cycles .number ≡ 0

@@ -2,6 +2,7 @@
 use clocked::Settings;
 use machine::Codes;
 use machine::REGISTERS;
+use machine::Window;
 ghost use mathlib.Core.Path.{_≡_};
 ghost use Rattle.machine.specs.Memory.{lent};
 ghost use Rattle.machine.specs.Runs.{plainAnswer};
@@ -16,6 +17,7 @@ pub struct Both {
 
 // The plain engine from a fresh start, which is not run where it is refused.
 fn run_plain(
+    window: Window,
     registers: [u64; REGISTERS],
     codes: Codes,
     address: u64,
@@ -24,9 +26,9 @@ fn run_plain(
     log: &mut [u64],
 ) -> plain::Answer
     ensures { λ r. ⌜ plainAnswer (r .number) (r .machine) (lent (now (memory .exit))) (now (log .exit))
-        ≡ plainFresh registers codes address (lent (now (memory .entry))) budget (now (log .entry)) ⌝ }
+        ≡ plainFresh window registers codes address (lent (now (memory .entry))) budget (now (log .entry)) ⌝ }
 {
-    let started = plain::start(memory.len(), registers, codes, address);
+    let started = plain::start(window, memory.len(), registers, codes, address);
     if started.number != 0 {
         return started;
     }
@@ -75,7 +77,8 @@ pub fn run_both(
         (bothAnswer (plainAnswer (r .plain .number) (r .plain .machine) (lent (now (memory .exit))) (now (log .exit)))
         (pipeAnswer (r .pipe .number) (r .pipe .pipeline) (lent (now (copy .exit))) (now (addresses .exit)) (now (cycles .exit)))) ⌝ }
 {
-    let plain = run_plain(registers, codes, address, memory, budget, log);
+    let window = settings.window;
+    let plain = run_plain(window, registers, codes, address, memory, budget, log);
     let pipe = run_pipe(
         settings,
         registers,

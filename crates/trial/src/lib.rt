@@ -4,12 +4,14 @@
 //
 // Its functions have no contract. They are proved to stay inside what they are lent and to return; what they answer is
 // compared with the second program, word for word, and a word read from or written to a wrong place shows there.
+use blocks_in::layout::MACHINE_WINDOW;
 use blocks_in::layout::STATE;
 use blocks_in::reading::codes_in;
 use blocks_in::reading::machine_in;
 use blocks_in::reading::pipeline_in;
 use blocks_in::reading::registers_in;
 use blocks_in::reading::settings_in;
+use blocks_in::reading::window_in;
 use blocks_out::writing::put_fault_address;
 use blocks_out::writing::put_instruction;
 use blocks_out::writing::put_machine;
@@ -26,10 +28,11 @@ pub extern "C" fn trial_fetch(memory: &mut [u8], address: u64, block: &mut [u64]
     answer.number
 }
 
-// A fresh machine record in memory of that size, with the registers and codes that the block holds; refused, the block stays.
+// A fresh machine record in memory of that size, with the window, registers and codes that the block holds; refused, the block stays.
 #[no_mangle]
 pub extern "C" fn trial_plain_start(block: &mut [u64], size: u64, address: u64) -> u64 {
     let answer = plain::start(
+        window_in(block, MACHINE_WINDOW),
         size as usize,
         registers_in(block, 0),
         codes_in(block, 0),

@@ -1,4 +1,4 @@
-use Rattle.answers.proofs.Ways.{no-size, not-below, starts}
+use Rattle.answers.proofs.Ways.{no-size, misfits, not-below, starts}
 use borrow.Author.Needs.{needs}
 use Rattle.answers.proofs.start_refusal.Statement.{statement}
 use Rattle.answers.proofs.start_refusal.Tie as tie
@@ -9,14 +9,29 @@ size-refused-requires c κs = search needs
 returns : tie.Need-returns
 returns c = search (needs, no-size)
 
+window-refused-requires : tie.Need-window-refused-requires
+window-refused-requires c κs = search needs
+
+returns-2 : tie.Need-returns-2
+returns-2 c = search (needs, misfits)
+
 start-refused-requires : tie.Need-start-refused-requires
 start-refused-requires c κs = search needs
 
-returns-2 : tie.Need-returns-2
-returns-2 c = search (needs, not-below)
-
 returns-3 : tie.Need-returns-3
-returns-3 c = search (needs, starts)
+returns-3 c = search (needs, not-below)
+
+returns-4 : tie.Need-returns-4
+returns-4 c = search (needs, starts)
 
 pub start-refusal-spec : {M : Type 1} → statement M
-start-refusal-spec = tie.close (tie.spec size-refused-requires returns start-refused-requires returns-2 returns-3)
+start-refusal-spec =
+    tie.close
+    (tie.spec
+    size-refused-requires
+    returns
+    window-refused-requires
+    returns-2
+    start-refused-requires
+    returns-3
+    returns-4)

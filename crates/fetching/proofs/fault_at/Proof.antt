@@ -22,6 +22,9 @@ enum-told-5 c = search needs
 enum-told-6 : tie.Need-enum-told-6
 enum-told-6 c = search needs
 
+code-end-requires : tie.Need-code-end-requires
+code-end-requires c κs = search needs
+
 sum-requires : tie.Need-sum-requires
 sum-requires c κs = search needs
 
@@ -52,6 +55,7 @@ fault-at-spec =
     enum-told-3
     enum-told-4
     enum-told-5
+    code-end-requires
     enum-told-6
     sum-requires
     returns

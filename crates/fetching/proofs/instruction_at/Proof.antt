@@ -1,6 +1,6 @@
 -- A law of `Parse` for each way out, in the order of the checks. What is past all of them is the instruction. A `let` names the record of facts at a place
 -- by its type, for which `search` finds the place: `there` where the first byte is, `whole` where no byte is missing, `sized` behind the table's length.
-use Rattle.fetching.proofs.Parse.{room, end-lent, outside, no-function, cut-short, names-none, halts, fetches, second}
+use Rattle.fetching.proofs.Parse.{room, end-lent, end-inside, outside, no-function, cut-short, names-none, halts, fetches, second}
 use Prim.Native.Nat.{_-_}
 use lib.ListN.{length}
 use mathlib.Core.Path.{_∙_}
@@ -9,6 +9,9 @@ use borrow.Author.Needs.{needs}
 use Rattle.fetching.proofs.instruction_at.Statement.{statement}
 use Rattle.fetching.proofs.instruction_at.Tie as tie
 
+code-end-requires : tie.Need-code-end-requires
+code-end-requires c κs = search needs
+
 stopping-requires : tie.Need-stopping-requires
 stopping-requires c κs = search needs
 
@@ -16,7 +19,10 @@ returns : tie.Need-returns
 returns c = search (needs, end-lent, outside)
 
 shared-slice-read-first : tie.Need-shared-slice-read-first
-shared-slice-read-first c = search needs
+shared-slice-read-first c =
+    let there : tie.Else1 = search in
+    let end : tie.After-code-end = search in
+    omega (arith, there .if1 .left, end-inside _ _ _ _ (end .code-end .ensures))
 
 functions-of-requires : tie.Need-functions-of-requires
 functions-of-requires c κs = search needs
@@ -52,11 +58,13 @@ register-byte-requires : tie.Need-register-byte-requires
 register-byte-requires c κs =
     let whole : tie.Else3 = search in
     let sized : tie.After-size-of = search in
+    let end : tie.After-code-end = search in
     let start : tie.Start = search in
     λ h. omega (
       arith,
       second _ (λ e. h (c .byte-of .ensures ∙ e)),
-      room (sized .size-of .result) (length (start .args .memory .now) - start .args .address) (whole .if3 .left),
+      room (sized .size-of .result) (end .code-end .result - start .args .address) (whole .if3 .left),
+      end-inside _ _ _ _ (end .code-end .ensures),
     )
 
 misnamed-requires : tie.Need-misnamed-requires
@@ -78,8 +86,13 @@ constant-of-requires : tie.Need-constant-of-requires
 constant-of-requires c κs =
     let whole : tie.Else3 = search in
     let sized : tie.After-size-of = search in
+    let end : tie.After-code-end = search in
     let start : tie.Start = search in
-    omega (arith, room (sized .size-of .result) (length (start .args .memory .now) - start .args .address) (whole .if3 .left))
+    omega (
+      arith,
+      room (sized .size-of .result) (end .code-end .result - start .args .address) (whole .if3 .left),
+      end-inside _ _ _ _ (end .code-end .ensures),
+    )
 
 cast-sum : tie.Need-cast-sum
 cast-sum c = search needs
@@ -100,7 +113,8 @@ returns-6 c =
     let sized : tie.After-size-of = search in
     let functions : tie.After-functions-of = search in
     let there : tie.Else1 = search in
-    fetches _ _ _ _ (end-lent _ _) (there .if1 .left) (functions .functions-of .ensures) _ (known .if2 .left) (sized .size-of .ensures) _ _ _ (whole .if3 .left)
+    let end : tie.After-code-end = search in
+    fetches _ _ _ _ (end-lent _ _ _ _ (end .code-end .ensures)) (there .if1 .left) (functions .functions-of .ensures) _ (known .if2 .left) (sized .size-of .ensures) _ _ _ (whole .if3 .left)
     (byte .byte-of .ensures) (pair .register-byte .ensures) (tested .misnamed .ensures) _ _ (named .if4 .left) (runs .if5 .left)
     (constant .constant-of .ensures) (c .sum .ensures)
 
@@ -108,6 +122,7 @@ pub instruction-at-spec : {M : Type 1} → statement M
 instruction-at-spec =
     tie.close
     (tie.spec
+    code-end-requires
     stopping-requires
     returns
     shared-slice-read-first

@@ -18,6 +18,9 @@ ret-on-the-way-requires c κs = search needs
 bad-in-w-requires : tie.Need-bad-in-w-requires
 bad-in-w-requires c κs = search needs
 
+patched-in-w-requires : tie.Need-patched-in-w-requires
+patched-in-w-requires c κs = search needs
+
 returns : tie.Need-returns
 returns c = search (needs, signals-are)
 
@@ -30,4 +33,5 @@ signals-now-spec =
     wrong-requires
     ret-on-the-way-requires
     bad-in-w-requires
+    patched-in-w-requires
     returns)

@@ -1,6 +1,7 @@
 -- One instruction, stage by stage: a `let` names the record of facts behind a stage's call by its type, for which `search` finds the place. The two ways
 -- out are those of the definition's step, the stop (`Ways` `stops`) and the instruction performed (`Ways` `performs`).
 use Rattle.plain.proofs.Ways.{stops, performs}
+use Rattle.machine.specs.Memory.{lent}
 use borrow.Author.Needs.{needs}
 use Rattle.plain.proofs.advance.Statement.{statement}
 use Rattle.plain.proofs.advance.Tie as tie
@@ -39,8 +40,8 @@ returns c =
     let decode : tie.After-decoded = search in
     let fetch : tie.After-instruction-at = search in
     let start : tie.Start = search in
-    stops _ _ _ _ _ _ _ (start .pre .1) (fetch .instruction-at .ensures) (decode .decoded .ensures) (execute .execute .ensures) (access .access .ensures)
-    (tested .is-bad .ensures) _ _ (stops-here .if1 .taken) (blamed .blame-of .ensures) (c .after-stop .ensures)
+    stops _ (lent (start .args .memory .now)) _ _ _ _ _ (start .pre .1) (fetch .instruction-at .ensures) (decode .decoded .ensures) (execute .execute .ensures)
+    (access .access .ensures) (tested .is-bad .ensures) _ _ (stops-here .if1 .taken) (blamed .blame-of .ensures) (c .after-stop .ensures)
 
 update-requires : tie.Need-update-requires
 update-requires c κs = search needs
@@ -61,7 +62,7 @@ returns-2 c =
     let decode : tie.After-decoded = search in
     let fetch : tie.After-instruction-at = search in
     let start : tie.Start = search in
-    performs _ _ _ _ _ _ _ (start .pre .1) (fetch .instruction-at .ensures) (decode .decoded .ensures) (execute .execute .ensures) (access .access .ensures)
+    performs _ (lent (start .args .memory .now)) _ _ _ _ _ (start .pre .1) (fetch .instruction-at .ensures) (decode .decoded .ensures) (execute .execute .ensures) (access .access .ensures)
     (tested .is-bad .ensures) _ _ (runs .if1 .left) (updated .update .ensures) (c .after-performed .ensures)
 
 pub advance-spec : {M : Type 1} → statement M

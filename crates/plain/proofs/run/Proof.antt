@@ -10,7 +10,7 @@ returns : tie.Need-returns
 returns c = run-refuses _ _ _ _ _ (c .before .refusal .ensures) (c .if1 .taken)
 
 run-on-requires : tie.Need-run-on-requires
-run-on-requires c κs = within-limit _ _ _ _ _ (c .before .before .before .refusal .ensures) (c .before .before .if1 .left)
+run-on-requires c κs = within-limit _ _ _ _ _ _ (c .before .before .before .refusal .ensures) (c .before .before .if1 .left)
 
 same-length : tie.Need-same-length
 same-length c = search needs

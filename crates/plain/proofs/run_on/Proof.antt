@@ -24,7 +24,7 @@ Asked = tie.After-is-stopped Inv-loop μ-loop
 loop-holds : tie.Need-loop-holds Inv-loop μ-loop
 loop-holds c =
     let start : tie.Start Inv-loop μ-loop = search in
-    goes-first _ _ _ _ (start .pre)
+    goes-first _ (lent (start .args .memory .now)) _ _ (start .pre)
 
 is-stopped-requires : tie.Need-is-stopped-requires Inv-loop μ-loop
 is-stopped-requires c κs = search needs

@@ -1,5 +1,6 @@
 use mathlib.Core.Path.{_≡_, ap}
 use Prim.Native.Nat.{ℕ}
+use Rattle.machine.specs.declared.Window.{Window}
 use Rattle.machine.specs.declared.Codes.{Codes}
 use Rattle.machine.specs.declared.Machine.{Machine}
 use Rattle.machine.specs.Memory.{Registers}
@@ -10,16 +11,17 @@ use borrow.Author.Needs.{needs}
 use Rattle.plain.proofs.start.Statement.{statement}
 use Rattle.plain.proofs.start.Tie as tie
 
-started : (size : ℕ) (r : Registers) (k : Codes) (a n : ℕ) → n ≡ startRefusal size a → _≡_ {A = ℕ × Machine} (n, plainStart r k a) (plainStarted size r k a)
+started : (w : Window) (size : ℕ) (r : Registers) (k : Codes) (a n : ℕ) → n ≡ startRefusal w size a
+    → _≡_ {A = ℕ × Machine} (n, plainStart w r k a) (plainStarted w size r k a)
 unfolding plainStarted
-started size r k a n h = ap (λ (x : ℕ). (x, plainStart r k a)) h
+started w size r k a n h = ap (λ (x : ℕ). (x, plainStart w r k a)) h
 
 start-refusal-requires : tie.Need-start-refusal-requires
 start-refusal-requires c κs = search needs
 
 returns : tie.Need-returns
 unfolding plainStart noBlame
-returns c = started _ _ _ _ _ (c .start-refusal .ensures)
+returns c = started _ _ _ _ _ _ (c .start-refusal .ensures)
 
 pub start-spec : {M : Type 1} → statement M
 start-spec = tie.close (tie.spec start-refusal-requires returns)

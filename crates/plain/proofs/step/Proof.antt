@@ -13,7 +13,7 @@ slice-aggregate-run-on : tie.Need-slice-aggregate-run-on
 slice-aggregate-run-on c = search needs
 
 run-on-requires : tie.Need-run-on-requires
-run-on-requires c κs = within-limit _ _ _ _ _ (c .before .before .before .refusal .ensures) (c .before .before .if1 .left)
+run-on-requires c κs = within-limit _ _ _ _ _ _ (c .before .before .before .refusal .ensures) (c .before .before .if1 .left)
 
 same-length : tie.Need-same-length
 same-length c = search needs

@@ -9,7 +9,7 @@ start-requires c κs = search needs
 returns : tie.Need-returns
 returns c =
     let started : tie.After-start = search in
-    plain-refused _ _ _ _ _ _ _ _ (started .start .ensures) (c .if1 .taken)
+    plain-refused _ _ _ _ _ _ _ _ _ (started .start .ensures) (c .if1 .taken)
 
 run-requires : tie.Need-run-requires
 run-requires c κs = search needs
@@ -25,7 +25,7 @@ returns-2 c =
     let ran : tie.After-run = search in
     let let-in : tie.Else1 = search in
     let started : tie.After-start = search in
-    plain-runs _ _ _ _ _ _ _ _ (started .start .ensures) _ (let-in .if1 .left) (ran .run .ensures)
+    plain-runs _ _ _ _ _ _ _ _ _ (started .start .ensures) _ (let-in .if1 .left) (ran .run .ensures)
 
 pub run-plain-spec : {M : Type 1} → statement M
 run-plain-spec = tie.close (tie.spec start-requires returns run-requires same-length same-length-2 returns-2)

@@ -12,6 +12,9 @@ loaded-word-requires c κs = search needs
 access-status-requires : tie.Need-access-status-requires
 access-status-requires c κs = search needs
 
+patches-requires : tie.Need-patches-requires
+patches-requires c κs = search needs
+
 accessed-requires : tie.Need-accessed-requires
 accessed-requires c κs = search needs
 
@@ -25,5 +28,6 @@ access-spec =
     accesses-of-requires
     loaded-word-requires
     access-status-requires
+    patches-requires
     accessed-requires
     returns)

@@ -22,6 +22,9 @@ returns-3 c = search (needs, fourth-refusal)
 record-refused-requires : tie.Need-record-refused-requires
 record-refused-requires c κs = search needs
 
+window-refused-requires : tie.Need-window-refused-requires
+window-refused-requires c κs = search needs
+
 returns-4 : tie.Need-returns-4
 returns-4 c = search (needs, fifth-refusal)
 
@@ -38,5 +41,6 @@ refusal-spec =
     returns-2
     returns-3
     record-refused-requires
+    window-refused-requires
     returns-4
     returns-5)

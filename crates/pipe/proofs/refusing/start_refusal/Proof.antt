@@ -13,6 +13,9 @@ returns c = search (needs, no-size)
 settings-refused-requires : tie.Need-settings-refused-requires
 settings-refused-requires c κs = search needs
 
+window-refused-requires : tie.Need-window-refused-requires
+window-refused-requires c κs = search needs
+
 returns-2 : tie.Need-returns-2
 returns-2 c = search (needs, no-rule)
 
@@ -32,6 +35,7 @@ start-refusal-spec =
     size-refused-requires
     returns
     settings-refused-requires
+    window-refused-requires
     returns-2
     start-refused-requires
     returns-3

@@ -8,7 +8,7 @@ use Prim.Native.Nat.{_-_, _≤_}
 use native.Mathlib.Omega.{arith}
 use lib.ListN.{length}
 use borrow.Author.Needs.{needs}
-use Rattle.machine.specs.Memory.{lent}
+use Rattle.machine.specs.Memory.{lent, through}
 use Rattle.clocked.specs.Pipeline.{pipedOf}
 use Rattle.pipe.specs.Parts.{whole}
 use Rattle.pipe.proofs.Runs.{Here, here-first, here-next, here-stopped, at-budget, at-stop, same-start, same-lengths, small-enough}
@@ -18,7 +18,7 @@ use Rattle.pipe.proofs.running.looped.Tie as tie
 abbrev Inv-loop : tie.InvT-loop
 Inv-loop memory₀ budget addresses₀ cycles₀ settings first registers₀ flow₀ tally₀ status₀ blame₀ done₀ memory addresses cycles registers flow tally status blame done =
     Here settings (pipedOf (whole settings flow₀ tally₀ status₀ registers₀ blame₀) (lent memory₀)) first addresses₀ cycles₀ done flow tally status registers
-    blame (lent memory) addresses cycles
+    blame (through (settings .window) (lent memory)) addresses cycles
     × (done ≤ budget) × (length memory ≡ length memory₀)
 
 abbrev μ-loop : tie.MeasureT-loop
@@ -50,8 +50,12 @@ loop-holds : tie.Need-loop-holds Inv-loop μ-loop
 loop-holds c =
     let flowing : tie.After-flow-of Inv-loop μ-loop = search in
     let start : tie.Start Inv-loop μ-loop = search in
-    let counts : tie.After-tally-of Inv-loop μ-loop = search in
-    (here-first _ (flowing .flow-of .ensures) (long-of start) (counts .tally-of .ensures) (start .pre .1) (omega (arith, start .pre .0)), omega arith, refl)
+    let counts : tie.After-tally-of Inv-loop μ-loop = search in (
+      here-first _ (lent (start .args .memory .now)) (flowing .flow-of .ensures) (long-of start) (counts .tally-of .ensures) (start .pre .1)
+          (omega (arith, start .pre .0)),
+      omega arith,
+      refl,
+    )
 
 is-bad-requires : tie.Need-is-bad-requires Inv-loop μ-loop
 is-bad-requires c κs = search needs
@@ -128,22 +132,25 @@ put-together-requires c κs = search needs
 
 -- the ways out: the budget is spent, the machine had stopped, it stops in this clock
 returns : tie.Need-returns Inv-loop μ-loop
+unfolding start-of
 returns c =
     let at : At = search in
     let counts : tie.After-tally-of Inv-loop μ-loop = search in
     let flowing : tie.After-flow-of Inv-loop μ-loop = search in
     let inv = at .loop .inv in
-    let from = same-start (flowing .flow-of .ensures) (counts .tally-of .ensures) in
+    let start = start-of at in
+    let lent₀ = lent (start .args .memory .now) in
+    let from = same-start lent₀ (flowing .flow-of .ensures) (counts .tally-of .ensures) in
     ⊎-elim
-    (λ (over, ea, ey, et, ex, ez, ed). at-budget _ from (inv .0) (c .put-together .ensures) ez ea ey et ex (omega (arith, inv .1)))
+    (λ (over, ea, ey, et, ex, ez, ed). at-budget lent₀ _ from (inv .0) (c .put-together .ensures) ez ea ey et ex (omega (arith, inv .1)))
     (⊎-elim
     (λ (turn, bad, stopped, ea, ey, et, ex, ez, ed).
-    at-stop _ from (inv .0) (c .put-together .ensures) ez ea ey et ex (inv .1) (sym (bad .ensures) ∙ stopped .taken))
+    at-stop lent₀ _ from (inv .0) (c .put-together .ensures) ez ea ey et ex (inv .1) (sym (bad .ensures) ∙ stopped .taken))
     (λ (turn, bad, runs, w, retired, counted, status, lent, entered, addresses, known, lent′, timed, cycles, known′, tested, stops, share, blamed, ea, ey, et, ex, ez, ed).
     let h =
     here-stopped (inv .0) (bad .ensures) (runs .left) (retired .ensures) (counted .ensures) (status .ensures) (entered .ensures) (timed .ensures)
     (tested .ensures) (stops .taken) (blamed .ensures) in
-    at-stop _ from (h .0) (c .put-together .ensures) ez ea ey et ex (omega (arith, turn .taken)) (h .1)))
+    at-stop lent₀ _ from (h .0) (c .put-together .ensures) ez ea ey et ex (omega (arith, turn .taken)) (h .1)))
     (c .before .loop-test .came)
 
 same-length : tie.Need-same-length Inv-loop μ-loop

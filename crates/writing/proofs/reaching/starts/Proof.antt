@@ -1,6 +1,6 @@
 use Rattle.writing.proofs.There.{starts-is}
 use mathlib.Core.Path.{refl}
-use Rattle.machine.specs.Memory.{lent, codeEnd}
+use Rattle.machine.specs.Memory.{lent, seenTo, codeEnd}
 use native.Mathlib.Omega.{arith}
 use borrow.Author.Needs.{needs}
 use Rattle.writing.proofs.reaching.starts.Statement.{statement}
@@ -34,7 +34,7 @@ refused-requires : tie.Need-refused-requires
 refused-requires c κs = search needs
 
 returns : tie.Need-returns
-unfolding codeEnd
+unfolding codeEnd seenTo
 returns c =
     let tested : tie.After-refused = search in
     let pair : tie.After-byte-at2 = search in
