@@ -4,6 +4,7 @@ use crate::bench::Once;
 use crate::inspect::Asked;
 use crate::judge;
 use crate::junk;
+use crate::list;
 use crate::listing;
 use crate::replaying::Given;
 use crate::Fault;
@@ -18,6 +19,7 @@ pub enum Command {
     Help,
     Replay(Asked),
     Read(listing::Asked),
+    List(list::Asked),
     Peaks(judge::Asked),
     Junk(junk::Asked),
     Bench,
@@ -33,17 +35,18 @@ pub fn read(words: Vec<OsString>) -> Result<Command, Fault> {
     }
     let Some((first, rest)) = words.split_first() else {
         return Err(usage(
-            "a command is missing: replay, read, peaks, junk or bench",
+            "a command is missing: replay, read, list, peaks, junk or bench",
         ));
     };
     match first.to_str() {
         Some("replay") => replay(rest).map(Command::Replay),
         Some("read") => read_listing(rest).map(Command::Read),
+        Some("list") => list(rest).map(Command::List),
         Some("peaks") => peaks(rest).map(Command::Peaks),
         Some("junk") => junk(rest).map(Command::Junk),
         Some("bench") => bench(rest),
         _ => Err(usage(format!(
-            "{} is no command; there are replay, read, peaks, junk and bench",
+            "{} is no command; there are replay, read, list, peaks, junk and bench",
             shown(first)
         ))),
     }
@@ -54,6 +57,13 @@ fn replay(words: &[OsString]) -> Result<Asked, Fault> {
     let mut options = Options::default();
     options.take("replay", words)?;
     options.replay()
+}
+
+/// The words after `desk list`.
+fn list(words: &[OsString]) -> Result<list::Asked, Fault> {
+    let mut options = Options::default();
+    options.take("list", words)?;
+    options.list()
 }
 
 /// The words after `desk peaks`.
@@ -108,7 +118,7 @@ fn split(word: &str) -> (&str, Option<OsString>) {
     }
 }
 
-/// The words of one `desk replay`, `desk peaks` or `desk junk`, by their place.
+/// The words of one `desk replay`, `desk list`, `desk peaks` or `desk junk`, by their place.
 #[derive(Default)]
 struct Options {
     image: Option<OsString>,
@@ -121,6 +131,8 @@ struct Options {
     table: Option<OsString>,
     length: Option<OsString>,
     filed: Option<OsString>,
+    from: Option<OsString>,
+    to: Option<OsString>,
     second: Option<()>,
 }
 
@@ -161,6 +173,8 @@ impl Options {
             ("replay" | "junk", "--codes") => Ok(&mut self.codes),
             ("replay", "--budget") => Ok(&mut self.budget),
             ("replay" | "junk", "--registers") => Ok(&mut self.registers),
+            ("list", "--from") => Ok(&mut self.from),
+            ("list", "--to") => Ok(&mut self.to),
             ("peaks", "--table") => Ok(&mut self.table),
             ("peaks", "--length") => Ok(&mut self.length),
             ("peaks", "--filed") => Ok(&mut self.filed),
@@ -208,6 +222,17 @@ impl Options {
             registers: self.registers.map(Into::into),
             start: number_or("--start", self.start, 0)?,
             codes: number_or("--codes", self.codes, 4)?,
+        })
+    }
+
+    /// The listing that is asked for.
+    fn list(mut self) -> Result<list::Asked, Fault> {
+        Ok(list::Asked {
+            image: self.image("list")?,
+            listing: self.listing()?,
+            from: number_or("--from", self.from, 0)?,
+            to: self.to.map(|word| number("--to", &word)).transpose()?,
+            second: self.second.is_some(),
         })
     }
 

@@ -68,6 +68,17 @@ extern "C" {
         rb: u64,
         constant: u64,
     ) -> u64;
+
+    fn y86_write_listing(
+        memory: *const u8,
+        memory_length: usize,
+        text: *mut u8,
+        text_length: usize,
+        length: *mut u8,
+        length_length: usize,
+        start: u64,
+        end: u64,
+    ) -> u64;
 }
 
 /// One pipelined run without logs from a fresh start, as document 01's host
@@ -193,8 +204,51 @@ pub fn encode(bytes: &mut [u8], length: &mut [u8], asked: Asked) -> u64 {
     }
 }
 
+/// The listing of memory from a start up to an end at the front of the lent
+/// text, and its length as a word (#104); or a refusal by its number. 8 leaves
+/// the length needed, and the text as it was.
+pub fn write_listing(
+    memory: &[u8],
+    text: &mut [u8],
+    length: &mut [u8],
+    start: u64,
+    end: u64,
+) -> u64 {
+    // SAFETY: as above; memory is only read.
+    unsafe {
+        y86_write_listing(
+            memory.as_ptr(),
+            memory.len(),
+            text.as_mut_ptr(),
+            text.len(),
+            length.as_mut_ptr(),
+            length.len(),
+            start,
+            end,
+        )
+    }
+}
+
 /// A reader of listings through the edge, or one that takes and leaves the same.
 pub type ReadListing = fn(&[u8], &mut [u8], &mut [u8]) -> u64;
+
+/// A writer of listings through the edge, or one that takes and leaves the same.
+pub type WriteListing = fn(&[u8], &mut [u8], &mut [u8], u64, u64) -> u64;
+
+/// A listing in a text of its own: asked first how long it is.
+pub fn listing(write: WriteListing, memory: &[u8], start: u64, end: u64) -> Result<Vec<u8>, u64> {
+    let mut length = [0; 8];
+    match write(memory, &mut [], &mut length, start, end) {
+        0 | 8 => {}
+        refusal => return Err(refusal),
+    }
+    let [needed] = words(&length);
+    let mut text = vec![0; needed as usize];
+    match write(memory, &mut text, &mut length, start, end) {
+        0 => Ok(text),
+        refusal => Err(refusal),
+    }
+}
 
 /// A replay through the edge, or one that takes and leaves the same.
 pub type Replay = fn(&mut [u8], &mut [u8], &mut [u8], u64, u64, u64) -> u64;

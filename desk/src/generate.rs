@@ -6,11 +6,13 @@ mod calls;
 mod listings;
 mod programs;
 mod random;
+mod ranges;
 mod records;
 
 pub use calls::{Call, Calls, Origin, Way};
 pub use listings::{Damage, Listed, Listings};
 pub use random::Random;
+pub use ranges::{Range, Ranges};
 pub use records::Record;
 
 use crate::second::machine::{CYCLE_LIMIT, MEMORY_LIMIT, PROGRAM_LIMIT};

@@ -1,5 +1,6 @@
 //! `desk replay`: reads the files, replays, and tells what came of it.
 
+use crate::list;
 use crate::listing;
 use crate::replaying::{self, Given};
 use crate::report::{self, Before};
@@ -40,7 +41,8 @@ pub fn replay(asked: &Asked) -> Result<(String, u8), Fault> {
         memory: &image.bytes,
         budget: asked.given.budget,
     };
-    let text = report::text(&told, &before, &memory, &registers);
+    let at_last = list::instruction(list::writer(asked.second), &memory, told.outcome.last);
+    let text = report::text(&told, &at_last, &before, &memory, &registers);
     Ok((text, report::exit_status(&told.outcome)))
 }
 

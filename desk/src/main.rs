@@ -5,6 +5,7 @@ mod bench;
 mod inspect;
 mod judge;
 mod junk;
+mod list;
 mod listing;
 mod replaying;
 mod report;
@@ -20,6 +21,8 @@ usage:
   desk replay IMAGE [options]   replay an image and show what it left
   desk read LISTING -o IMAGE [--size N]
                                 read a listing and write its raw image
+  desk list IMAGE [--from A] [--to B]
+                                write a listing of an image
   desk peaks IMAGE --table A --length L --filed P
                                 replay it, and hold the filed peak against the
                                 largest good sample of the day
@@ -38,7 +41,7 @@ without overlap. Bytes that no line names are 0.
 
 options for a listing:
   --size N           how many bytes of memory the image has, 1 to 65,536 (4096)
-  --listing          of replay, peaks and junk: IMAGE is a listing (with
+  --listing          of replay, list, peaks and junk: IMAGE is a listing (with
                      --size, if wanted)
 
 options of replay; the first two and --registers are junk's too:
@@ -54,11 +57,20 @@ in brackets, as in the program y86run. No file is changed but the one that read
 writes, and that only where the whole listing is right.
 
 What is shown: status and, where a fetch failed and the engine tells why, which
-byte was at fault; last address, codes, instructions retired, cycles, the
-registers that are not 0, and the words that changed in memory (8 bytes each
-from address 0 on, least byte first; the last has what is left). Where the
-budget was spent, instructions are on their way: memory and codes can be ahead
-of the registers.
+byte was at fault; last address with the instruction that stands there at the
+end, codes, instructions retired, cycles, the registers that are not 0, and the
+words that changed in memory (8 bytes each from address 0 on, least byte first;
+the last has what is left). Where the budget was spent, instructions are on
+their way: memory and codes can be ahead of the registers.
+
+options of list:
+  --from A           the first address of the listing (0)
+  --to B             the address behind its last (the end of the image)
+  --second           a second opinion: by the second program
+
+One instruction a line, with its notation as the remark; a byte that starts none
+is a line by itself, without remark, and so is each byte of an instruction that
+goes on behind B. Exit status: 0. What list wrote, read reads back.
 
 peaks replays the image as y86run does. A is the address of the day's table of
 L words, 1 to 1,440, and P the address of the filed peak, in the final memory. A
@@ -129,6 +141,7 @@ fn perform(command: Command) -> Result<u8, Fault> {
             say(&text).map(|()| status)
         }
         Command::Read(asked) => say(&listing::read(&asked)?).map(|()| 0),
+        Command::List(asked) => say(&list::list(&asked)?).map(|()| 0),
         Command::Peaks(asked) => {
             let (text, status) = judge::day(&asked)?;
             say(&text).map(|()| status)

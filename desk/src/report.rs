@@ -23,13 +23,20 @@ pub fn exit_status(outcome: &Outcome) -> u8 {
     }
 }
 
-/// The outcome, the registers that are not 0, and the words that changed.
-pub fn text(told: &Told, before: &Before, memory: &[u8], registers: &[u8]) -> String {
+/// The outcome with the instruction at its last address, the registers that
+/// are not 0, and the words that changed.
+pub fn text(
+    told: &Told,
+    at_last: &str,
+    before: &Before,
+    memory: &[u8],
+    registers: &[u8],
+) -> String {
     let outcome = &told.outcome;
     let codes = outcome.codes;
     let (zf, sf, of) = (codes >> 2 & 1, codes >> 1 & 1, codes & 1);
     let mut text = ending(told, before.budget, memory);
-    text += &format!("last     {}\n", address(outcome.last));
+    text += &format!("last     {}: {at_last}\n", address(outcome.last));
     text += &format!("codes    {codes} (ZF {zf}, SF {sf}, OF {of})\n");
     text += &format!("retired  {}\n", outcome.retired);
     text += &format!("cycles   {}\n", outcome.cycles);

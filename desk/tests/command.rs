@@ -41,7 +41,7 @@ fn fault(words: &[&str], status: i32, says: &[&str]) {
 
 const SHOWN: &str = "\
 status   HLT (2): the image halted
-last     0x40 (64)
+last     0x40 (64): halt
 codes    0 (ZF 0, SF 0, OF 0)
 retired  11
 cycles   20
@@ -67,21 +67,39 @@ fn a_replay_is_shown_in_words_and_numbers() {
 #[test]
 fn the_exit_status_tells_the_outcome() {
     let cases = [
-        ("halt", "00", 0, "HLT (2)"),
+        ("halt", "00", 0, "HLT (2)", "0x0 (0): halt"),
         (
             "spent",
             "700000000000000000",
             1,
             "AOK (1): the budget of 4000",
+            "0x0 (0): jmp 0",
         ),
-        ("address", "10", 2, "ADR (3)"),
-        ("instruction", "d0", 3, "INS (4)"),
+        ("address", "10", 2, "ADR (3)", "0x1 (1): outside memory"),
+        (
+            "instruction",
+            "d0",
+            3,
+            "INS (4)",
+            "0x0 (0): d0 starts no instruction",
+        ),
+        (
+            "cut off",
+            "1030",
+            2,
+            "ADR (3)",
+            "0x1 (1): 30 starts no instruction",
+        ),
     ];
-    for (name, image, status, says) in cases {
+    for (name, image, status, says, last) in cases {
         let path = file(name, &from_hex(image));
         let (code, output, message) = said(&["replay", &path]);
         assert_eq!((code, message.as_str()), (status, ""), "{name}");
         assert!(output.contains(says), "{output}");
+        assert!(output.contains(&format!("last     {last}\n")), "{output}");
+        let (second, opinion, _) = said(&["replay", &path, "--second"]);
+        assert_eq!(second, status, "{name}, a second opinion");
+        assert!(opinion.contains(&format!("last     {last}\n")), "{opinion}");
         assert!(output.contains("registers: all 0\nmemory: as it was\n"));
     }
 }
@@ -157,7 +175,7 @@ fn options_are_taken() {
     let (code, output, _) = said(&[&["replay"], &given[..], &[&image]].concat());
     assert_eq!(code, 0, "{output}");
     for says in [
-        "last     0xd (13)\ncodes    4 (ZF 1, SF 0, OF 0)\nretired  3\ncycles   7\n",
+        "last     0xd (13): halt\ncodes    4 (ZF 1, SF 0, OF 0)\nretired  3\ncycles   7\n",
         "not 0:\n  rbx  0x1122334455667788 (1234605616436508552)\n",
         "  0x8 (8)         0x0000000000000000  0x7788000000000000\n",
         "  0x10 (16)       0x00000000000000    0x00112233445566\n",
@@ -168,7 +186,10 @@ fn options_are_taken() {
     let (code, output, _) = said(&words);
     assert_eq!(code, 1);
     assert!(output.contains("codes    0"), "{output}");
-    assert!(output.contains("last     0x1 (1)"), "{output}");
+    assert!(
+        output.contains("last     0x1 (1): xorq %rax, %rax\n"),
+        "{output}"
+    );
 }
 
 #[test]
@@ -240,7 +261,10 @@ fn a_large_image_is_replayed() {
         for second in [&[][..], &["--second"]] {
             let (code, output, message) = said(&[words, second].concat());
             assert_eq!((code, message.as_str()), (0, ""), "{words:?}");
-            assert!(output.contains("last     0xffff (65535)\n"), "{output}");
+            assert!(
+                output.contains("last     0xffff (65535): halt\n"),
+                "{output}"
+            );
         }
     }
 }
@@ -258,12 +282,9 @@ fn commands_at_fault_are_explained() {
     }
     fault(&bad("18446744073709551616"), 64, &["64 bits"]);
     fault(&bad("0x10000000000000000"), 64, &["64 bits"]);
-    fault(&[], 64, &["replay, read, peaks, junk or bench"]);
-    fault(
-        &["play"],
-        64,
-        &["'play'", "replay, read, peaks, junk and bench"],
-    );
+    fault(&[], 64, &["replay, read, list, peaks, junk or bench"]);
+    let commands = "replay, read, list, peaks, junk and bench";
+    fault(&["play"], 64, &["'play'", commands]);
     fault(&["replay"], 64, &["image"]);
     fault(&["replay", &image, &image], 64, &["one image"]);
     fault(
@@ -300,6 +321,78 @@ fn a_listing_is_read_and_replayed() {
     assert_eq!(said(&given), (0, SHOWN.into(), String::new()));
     let second = said(&[&given[..], &["--second"]].concat());
     assert_eq!(second, (0, SHOWN.into(), String::new()));
+}
+
+/// The lines of a listing that is written, by the engine and the second program.
+fn listed(words: &[&str]) -> String {
+    let (code, output, message) = said(&[&["list"], words].concat());
+    assert_eq!((code, message.as_str()), (0, ""), "{words:?}");
+    let second = said(&[&["list", "--second"], words].concat());
+    assert_eq!(second, (0, output.clone(), String::new()), "{words:?}");
+    output
+}
+
+#[test]
+fn an_image_is_listed_and_read_back() {
+    let raw = file("listed.img", &listing_001());
+    let whole = listed(&[&raw]);
+    assert!(whole.starts_with("0\t30f20900000000000000\tirmovq $9, %rdx\na\t30f3"));
+    assert!(whole.contains("\n14\t6123\tsubq %rdx, %rbx\n"));
+    assert!(whole.ends_with("\nff\t00\thalt\n"));
+    let text = file("listed.lst", whole.as_bytes());
+    let image = file("back.img", &[]);
+    let (code, _, _) = said(&["read", &text, "-o", &image, "--size", "256"]);
+    let read = std::fs::read(&image).expect("the image");
+    assert_eq!((code, read), (0, listing_001()));
+    assert_eq!(listed(&[&text, "--listing", "--size=256"]), whole);
+}
+
+#[test]
+fn a_range_is_listed() {
+    let image = file("range.img", &listing_001());
+    let one = listed(&[&image, "--from", "0x14", "--to", "0x16"]);
+    assert_eq!(one, "14\t6123\tsubq %rdx, %rbx\n");
+    let cut = listed(&["--to=21", &image, "--from=20"]);
+    assert_eq!(cut, "14\t61\n");
+    assert_eq!(listed(&[&image, "--from=256"]), "");
+    let last = listed(&[&image, "--from=255"]);
+    assert_eq!(last, "ff\t00\thalt\n");
+}
+
+#[test]
+fn listings_that_cannot_be_written_are_explained() {
+    let image = file("unlisted.img", &listing_001());
+    let empty = file("unlisted_empty.img", &[]);
+    let long = file("unlisted_long.img", &vec![0; 65_537]);
+    for second in [&[][..], &["--second"]] {
+        let asks = |words: &[&'static str]| [&["list", &image], words, second].concat();
+        let above = asks(&["--from", "2", "--to", "1"]);
+        fault(
+            &above,
+            10,
+            &["refused (7)", "from 2 to 1", "below the start"],
+        );
+        fault(&asks(&["--to=257"]), 10, &["(7)", "up to 257", "256 bytes"]);
+        fault(&asks(&["--from=257"]), 10, &["(7)", "from 257 to 256"]);
+        for (name, says) in [(&empty, "is empty"), (&long, "65537 bytes")] {
+            let words = [&["list", name, "--from=2", "--to=1"], second].concat();
+            fault(&words, 10, &["refused (1)", says, "1 to 65,536"]);
+        }
+    }
+    fault(&["list"], 64, &["list wants an image"]);
+    fault(&["list", &image, "--to", "x"], 64, &["--to 'x'"]);
+    fault(&["list", &image, "--start=1"], 64, &["no option of list"]);
+    fault(
+        &["replay", &image, "--from=1"],
+        64,
+        &["no option of replay"],
+    );
+    fault(
+        &["list", &image, "--size=9"],
+        64,
+        &["--size is for a listing"],
+    );
+    fault(&["list", "no/such"], 66, &["no such file"]);
 }
 
 #[test]
@@ -367,6 +460,7 @@ fn help_is_at_hand() {
             "--budget",
             "--registers",
             "desk read LISTING",
+            "desk list IMAGE [--from A] [--to B]",
             "--listing",
             "exit status",
         ] {

@@ -14,3 +14,4 @@ pub mod Wrong
 pub mod Edge
 pub mod Days
 pub mod NoPart
+pub mod Written

@@ -13,7 +13,7 @@ use Rattle.peaks.specs.Day.{judged}
 use Rattle.edge.specs.Edge.{Edge, replayed}
 use Rattle.day_edge.specs.Days.{DayAt, dayAnswer}
 use Rattle.encoding.specs.Encode.{Fields}
-use Rattle.writing_edge.specs.Writings.{Written, encoded}
+use Rattle.writing_edge.specs.Writings.{Written, encoded, listingWritten}
 use Rattle.dayreport.specs.Program.{answeredInput}
 use Rattle.together.specs.Both.{BothAnswer, bothRuns}
 use Rattle.cases.specs.Names.{Window, Codes, FetchAnswer, Machine, Pipeline}
@@ -90,6 +90,10 @@ day-exported = promising (List ℕ × List ℕ × ℕ × ℕ × ℕ) DayAt (λ x
 -- edge::y86_encode: the bytes and their length as lent, and the instruction's fields
 abbrev pub instruction-encoded : Operation
 instruction-encoded = promising (List ℕ × List ℕ × Fields) Written (λ x. encoded (x .0) (x .1) (x .2))
+
+-- edge::y86_write_listing: memory, and the text and its length as lent; start and end
+abbrev pub listing-written : Operation
+listing-written = promising (List ℕ × List ℕ × List ℕ × ℕ × ℕ) Written (λ x. listingWritten (x .0) (x .1) (x .2) (x .3) (x .4))
 
 -- dayreport::report_input: the bytes read and the buffer; how many bytes are written, the buffer, and what is left of the bytes read
 abbrev pub input-reported : Operation

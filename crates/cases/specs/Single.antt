@@ -8,7 +8,7 @@ use Rattle.clocked.specs.PipeRuns.{pipeAnswer}
 use Rattle.edge.specs.Edge.{edge}
 use Rattle.cases.specs.Names.{Machine, Pipeline}
 use Rattle.cases.specs.Promises.{Operation, Fits, Promise, fetching, plain-start, plain-step, plain-run, pipe-start, pipe-clock, pipe-run}
-use Rattle.cases.specs.Promises.{pipe-run-unlogged, host-edge, run-both, day-judged, day-exported, instruction-encoded, input-reported}
+use Rattle.cases.specs.Promises.{pipe-run-unlogged, host-edge, run-both, day-judged, day-exported, instruction-encoded, listing-written, input-reported}
 
 -- two answers that both meet the promise for the same input are equal: number, record, all lent bytes and words
 abbrev pub OneAnswer : Operation → Type 0
@@ -59,6 +59,9 @@ one-day-exported = one-answer day-exported
 
 pub one-instruction-encoded : OneAnswer instruction-encoded
 one-instruction-encoded = one-answer instruction-encoded
+
+pub one-listing-written : OneAnswer listing-written
+one-listing-written = one-answer listing-written
 
 pub one-input-reported : OneAnswer input-reported
 one-input-reported = one-answer input-reported

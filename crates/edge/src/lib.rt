@@ -8,7 +8,7 @@ ghost use mathlib.Core.Path.{_≡_};
 ghost use Rattle.day_edge.specs.Days.{dayAt, dayAnswer};
 ghost use Rattle.listing_edge.specs.Listings.{listingEdge, listingRead};
 ghost use Rattle.encoding.specs.Encode.{fields};
-ghost use Rattle.writing_edge.specs.Writings.{written, encoded};
+ghost use Rattle.writing_edge.specs.Writings.{written, encoded, listingWritten};
 ghost use Rattle.edge.specs.Edge.{edge, replayed, replayedSet};
 ghost use Rattle.replay_ends.specs.Ends.{numbers};
 
@@ -118,4 +118,19 @@ pub extern "C" fn y86_encode(
         ≡ encoded (now (bytes .entry)) (now (length .entry)) (fields code function ra rb constant) ⌝ }
 {
     writing_edge::encode(bytes, length, code, function, ra, rb, constant)
+}
+
+// The listing of memory from a start up to an end, one instruction a line (#104).
+#[no_mangle]
+pub extern "C" fn y86_write_listing(
+    memory: &[u8],
+    text: &mut [u8],
+    length: &mut [u8],
+    start: u64,
+    end: u64,
+) -> u64
+    ensures { λ r. ⌜ written r (now (text .exit)) (now (length .exit))
+        ≡ listingWritten (now (memory .entry)) (now (text .entry)) (now (length .entry)) start end ⌝ }
+{
+    writing_edge::write_listing(memory, text, length, start, end)
 }

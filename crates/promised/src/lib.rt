@@ -22,7 +22,7 @@ ghost use Rattle.cases.specs.Promises.{Fits, fetching, plain-start, plain-step,
 ghost use Rattle.cases.specs.Listings.{listing-read, edge-listing};
 ghost use Rattle.cases.specs.Program.{report-image, image-run, write-report};
 ghost use Rattle.cases.specs.Promises.{pipe-start, pipe-clock, pipe-run, pipe-run-unlogged, host-edge, run-both};
-ghost use Rattle.cases.specs.Promises.{day-judged, day-exported, instruction-encoded, input-reported};
+ghost use Rattle.cases.specs.Promises.{day-judged, day-exported, instruction-encoded, listing-written, input-reported};
 
 fn fetch(memory: &[u8], address: u64) -> FetchAnswer
     ensures { λ r. ⌜ Fits fetching (lent (now (memory .entry)), address) r ⌝ }
@@ -203,6 +203,13 @@ fn instruction_encoded(
         (written r (now (bytes .exit)) (now (length .exit))) ⌝ }
 {
     edge::y86_encode(bytes, length, code, function, ra, rb, constant)
+}
+
+fn listing_written(memory: &[u8], text: &mut [u8], length: &mut [u8], start: u64, end: u64) -> u64
+    ensures { λ r. ⌜ Fits listing-written (now (memory .entry), now (text .entry), now (length .entry), start, end)
+        (written r (now (text .exit)) (now (length .exit))) ⌝ }
+{
+    edge::y86_write_listing(memory, text, length, start, end)
 }
 
 fn input_reported(input: &mut [u8], out: &mut [u8; 144]) -> usize

@@ -6,19 +6,23 @@ use Prim.Native.Nat.{ℕ, _+_, _-_, _*_, _≤_, _<_}
 use native.Mathlib.Omega.{arith}
 use lib.ListN.{length, take, drop, length-take}
 use Rattle.machine.specs.declared.Instruction.{Instruction}
+use Rattle.machine.specs.declared.Status.the-variants.{Aok as aok}
+use Rattle.machine.specs.Memory.{Memory}
+use Rattle.published.specs.Fetching.{aokAt}
 use Rattle.listing.specs.Grammar.{Remark, none, some, remarked, line}
 use Rattle.text.specs.Parts.{tab, lineFeed}
 use Rattle.text.specs.Put.{Put, put-both, put-nothing}
 use Rattle.writing.specs.HexText.{hexText, hexPairs}
 use Rattle.writing.specs.Remark.{remark}
 use Rattle.writing.specs.Text.{noted, lineOf}
+use Rattle.writing.specs.There.{thereAt}
 use Rattle.writing.specs.Back.{pairs-length}
 
 -- the remark, where there is one
-pub note-put : (w : Bool) (n : Instruction) {i j k : ℕ} {t u v : List ℕ} → w ≡ true → Put (tab ∷ []) i t j u → Put (remark (n .status) n) j u k v
-    → Put (remarked (noted w n)) i t k v
-unfolding remarked
-note-put w n e x y = rw e (put-both x y)
+pub note-put : (w : Bool) (m : Memory) (a : ℕ) {i j k : ℕ} {t u v : List ℕ} → w ≡ true → Put (tab ∷ []) i t j u → Put (remark aok (thereAt m a)) j u k v
+    → Put (remarked (noted w (thereAt m a))) i t k v
+unfolding remarked aokAt
+note-put w m a e x y = rw e (put-both x y)
 
 pub no-note : (w : Bool) (n : Instruction) (i : ℕ) (t : List ℕ) → w ≡ false → Put (remarked (noted w n)) i t i t
 unfolding remarked

@@ -7,14 +7,15 @@ use native.Mathlib.Omega.{arith}
 use lib.Dec.{ltb}
 use lib.ListN.{take, drop}
 use borrow.Author.Tests.{lt-ltb, le-ltb}
-use Rattle.machine.specs.declared.Instruction.{Instruction}
 use Rattle.machine.specs.Memory.{Memory}
 use Rattle.machine.specs.Fetch.{sizeAt, fetch}
 use Rattle.listing.specs.Grammar.{line, written}
 use Rattle.text.specs.Parts.{Text, lineFeed}
 use Rattle.text.specs.Put.{Put, put-both, put-nothing}
-use Rattle.writing.specs.Back.{line-bytes}
+use Rattle.writing.specs.Back.{line-bytes, whole-within}
 use Rattle.writing.specs.Text.{noted, lineOf, whole, crosses, lineBytes, lineAt, linesFrom, listingOf}
+use Rattle.writing.specs.There.{thereAt}
+use Rattle.writing.proofs.There.{noted-there, whole-starts}
 
 -- the text is what is done and the lines that are left
 pub record SoFar (m : Memory) (start end : ℕ) (b₀ : List ℕ) (next at : ℕ) (cut : Bool) (b : List ℕ) : Type 0 where
@@ -75,10 +76,14 @@ module _ (m : Memory) (a e n c : ℕ) (cut w : Bool) (is-whole : w ≡ whole cut
   pub count-bounds : a < e → (1 ≤ c) × (c ≤ 10) × (a + c ≤ e)
   count-bounds h = rw counted (line-bytes cut m a e h)
 
-  pub turn : (start : ℕ) {b₀ b b′ : List ℕ} {next next′ : ℕ} (cut′ : Bool) (i : Instruction) → SoFar m start e b₀ next a cut b → a < e → i ≡ fetch m a
-      → cut′ ≡ crosses cut m a e → Put (line (lineOf a (take c (drop a (m .bytes))) (noted w i)) ++ lineFeed ∷ []) next b next′ b′
+  pub whole-inside : w ≡ true → a + sizeAt m a ≤ e
+  whole-inside t = whole-within cut m a e (sym is-whole ∙ t)
+
+  pub turn : (start : ℕ) {b₀ b b′ : List ℕ} {next next′ : ℕ} (cut′ : Bool) → SoFar m start e b₀ next a cut b → a < e → cut′ ≡ crosses cut m a e
+      → Put (line (lineOf a (take c (drop a (m .bytes))) (noted w (thereAt m a))) ++ lineFeed ∷ []) next b next′ b′
       → SoFar m start e b₀ next′ (a + c) cut′ b′
   unfolding lineAt
-  turn start {b = b} {b′ = b′} {next = next} {next′ = next′} cut′ i s h f x p =
-      let q : lineOf a (take c (drop a (m .bytes))) (noted w i) ≡ lineAt cut m a e = cc (counted) in
+  turn start {b = b} {b′ = b′} {next = next} {next′ = next′} cut′ s h x p =
+      let shown : noted w (thereAt m a) ≡ noted w (fetch m a) = noted-there m a w (whole-starts cut m a e w is-whole) in
+      let q : lineOf a (take c (drop a (m .bytes))) (noted w (thereAt m a)) ≡ lineAt cut m a e = cc (counted, shown) in
       goes-on m start e a c cut cut′ s h (count-bounds h .0) counted x (subst (λ r. Put (line r ++ lineFeed ∷ []) next b next′ b′) q p)

@@ -4,14 +4,11 @@ use mathlib.Core.Path.{_≡_, refl, sym, _∙_}
 use Prim.Native.Nat.{ℕ, _≤_, _<_}
 use native.Mathlib.Omega.{arith}
 use lib.ListN.{getD, List·getD-eq-default}
-use Rattle.machine.specs.declared.Instruction.{Instruction}
-use Rattle.machine.specs.declared.Status.{Status}
-use Rattle.machine.specs.declared.Status.the-variants.{Aok as aok, Hlt as hlt, Adr as adr, Ins as ins}
 use Rattle.writing.proofs.Naming.{each}
 use Rattle.text.specs.Bytes.{bytes}
 use Rattle.text.specs.Decimal.{decimal}
 use Rattle.text.specs.Put.{Put, put-both, put-nothing}
-use Rattle.writing.specs.Remark.{Operands, nothing, pair, immediate, store, load, target, single, operandsOf, register, operands, mnemonic, remark}
+use Rattle.writing.specs.Remark.{Operands, nothing, pair, immediate, store, load, target, single, operandsOf, register, operands}
 
 pub pair-put : (a b c : ℕ) {i j k : ℕ} {t u v : List ℕ} → Put (bytes " " ++ register a) i t j u → Put (bytes ", " ++ register b) j u k v → Put (operands pair a b c) i t k v
 unfolding operands
@@ -150,22 +147,3 @@ as-nothing code a b c i t h p q r s u v =
 pub no-operands : (code a b c i : ℕ) (t : List ℕ) → 13 ≤ code → Put (operands (shapeOf code) a b c) i t i t
 unfolding operandsOf operands
 no-operands code a b c i t h = rw (List·getD-eq-default operandsOf nothing h) (put-nothing i t)
-
--- THE REMARK
-module _ (s : Status) (n : Instruction) where
-  pub aok-remark : {i j k : ℕ} {t u v : List ℕ} → s ≡ aok → Put (mnemonic (n .code) (n .function)) i t j u
-      → Put (operands (shapeOf (n .code)) (n .ra) (n .rb) (n .constant)) j u k v → Put (remark s n) i t k v
-  unfolding remark
-  aok-remark e x y = rw e (put-both x y)
-
-  pub hlt-remark : {i j : ℕ} {t u : List ℕ} → s ≡ hlt → Put (mnemonic 0 0) i t j u → Put (remark s n) i t j u
-  unfolding remark
-  hlt-remark e x = rw e x
-
-  pub adr-remark : (i : ℕ) (t : List ℕ) → s ≡ adr → Put (remark s n) i t i t
-  unfolding remark
-  adr-remark i t e = rw e (put-nothing i t)
-
-  pub ins-remark : (i : ℕ) (t : List ℕ) → s ≡ ins → Put (remark s n) i t i t
-  unfolding remark
-  ins-remark i t e = rw e (put-nothing i t)

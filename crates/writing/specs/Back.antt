@@ -206,7 +206,7 @@ size-bounds m a =
     let p = both-hold (ltb 0 n) (ltb n 11) (small-size (getD (m .bytes) a 0 / 16)) in
     (omega (arith, ltb→lt 0 n (p .0)), omega (arith, ltb→lt n 11 (p .1)))
 
-whole-within : (cut : Bool) (m : Memory) (a e : ℕ) → whole cut m a e ≡ true → a + sizeAt m a ≤ e
+pub whole-within : (cut : Bool) (m : Memory) (a e : ℕ) → whole cut m a e ≡ true → a + sizeAt m a ≤ e
 unfolding whole withinEnd
 whole-within cut m a e h = leb-true (a + sizeAt m a) e (second (startsAt m a) _ (second (not cut) _ h))
 

@@ -8,9 +8,8 @@ mod words;
 use crate::lines::put_line;
 use crate::reaching::crosses;
 use crate::reaching::size_at;
+use crate::reaching::starts;
 use crate::reaching::whole;
-use fetching::instruction_at;
-use machine::Window;
 ghost use Prim.Native.Nat.{_≤_};
 ghost use lib.ListN.{length};
 ghost use mathlib.Core.Bool.{cond};
@@ -27,20 +26,19 @@ fn count_of(whole: bool, size: u64) -> u64
 
 // The lines from a start up to an end, not itself written.
 pub fn put_listing(buffer: &mut [u8], memory: &[u8], start: u64, end: u64) -> usize
-    requires { ⌜ (end ≤ length (now memory)) × (length (now memory) ≤ 4096) ⌝ }
+    requires { ⌜ (end ≤ length (now memory)) × (length (now memory) ≤ 65536) ⌝ }
     ensures { λ r. ⌜ Put (listingOf (lent (now (memory .entry))) start end) 0 (now (buffer .entry)) r (now (buffer .exit)) ⌝ }
 {
     let mut next: usize = 0;
     let mut at = start;
     let mut cut = false;
     while at < end {
-        let i = instruction_at(Window::NoWindow, memory, at);
-        let status = i.status;
         let size = size_at(memory, at);
-        let one = whole(memory, status, size, at, end, cut);
+        let started = starts(memory, at, size);
+        let one = whole(memory, started, size, at, end, cut);
         let count = count_of(one, size);
-        next = put_line(buffer, next, memory, at, count, one, i);
-        cut = crosses(memory, status, size, at, end, cut);
+        next = put_line(buffer, next, memory, at, count, one);
+        cut = crosses(memory, started, size, at, end, cut);
         at += count;
     }
     next

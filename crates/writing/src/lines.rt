@@ -2,27 +2,31 @@
 use crate::hexes::put_hex;
 use crate::hexes::put_pairs;
 use crate::remarks::put_remark;
-use machine::Instruction;
 use text::parts::LINE_FEED;
 use text::parts::TAB;
 use text::put_byte;
+ghost use mathlib.Core.Path.{_≡_};
+ghost use mathlib.Core.Bool.{true};
 ghost use mathlib.Core.List.{[], _∷_, _++_};
 ghost use Prim.Native.Nat.{_+_, _^_, _≤_, _<_};
 ghost use lib.ListN.{length, take, drop};
+ghost use Rattle.machine.specs.Fetch.{sizeAt};
+ghost use Rattle.machine.specs.Memory.{lent};
 ghost use Rattle.listing.specs.Grammar.{remarked, line};
 ghost use Rattle.text.specs.Parts.{lineFeed};
 ghost use Rattle.text.specs.Put.{Put};
 ghost use Rattle.writing.specs.Text.{noted, lineOf};
+ghost use Rattle.writing.specs.There.{thereAt};
 
 // The remark, where the line is an instruction.
-fn put_note(buffer: &mut [u8], at: usize, whole: bool, i: Instruction) -> usize
-    requires { ⌜ at + 49 < 2 ^ 64 ⌝ }
-    ensures { λ r. ⌜ Put (remarked (noted whole i)) at (now (buffer .entry)) r (now (buffer .exit)) ⌝ }
+fn put_note(buffer: &mut [u8], at: usize, whole: bool, memory: &[u8], address: u64) -> usize
+    requires { ⌜ (at + 49 < 2 ^ 64) × (whole ≡ true → address + sizeAt (lent (now memory)) address ≤ length (now memory)) × (length (now memory) ≤ 65536) ⌝ }
+    ensures { λ r. ⌜ Put (remarked (noted whole (thereAt (lent (now (memory .entry))) address))) at (now (buffer .entry)) r (now (buffer .exit)) ⌝ }
     ensures { λ r. ⌜ r ≤ at + 49 ⌝ }
 {
     if whole {
         let next = put_byte(buffer, at, TAB);
-        return put_remark(buffer, next, i);
+        return put_remark(buffer, next, memory, address);
     }
     at
 }
@@ -35,10 +39,10 @@ pub fn put_line(
     address: u64,
     count: u64,
     whole: bool,
-    i: Instruction,
 ) -> usize
-    requires { ⌜ (at + 90 < 2 ^ 64) × (address + count ≤ length (now memory)) × (count ≤ 10) ⌝ }
-    ensures { λ r. ⌜ Put (line (lineOf address (take count (drop address (now (memory .entry)))) (noted whole i)) ++ lineFeed ∷ [])
+    requires { ⌜ (at + 90 < 2 ^ 64) × (address + count ≤ length (now memory)) × (count ≤ 10)
+        × (whole ≡ true → address + sizeAt (lent (now memory)) address ≤ length (now memory)) × (length (now memory) ≤ 65536) ⌝ }
+    ensures { λ r. ⌜ Put (line (lineOf address (take count (drop address (now (memory .entry)))) (noted whole (thereAt (lent (now (memory .entry))) address))) ++ lineFeed ∷ [])
         at (now (buffer .entry)) r (now (buffer .exit)) ⌝ }
     ensures { λ r. ⌜ r ≤ at + 90 ⌝ }
 {
@@ -47,6 +51,6 @@ pub fn put_line(
     let tab = put_hex(buffer, at, address);
     let digits = put_byte(buffer, tab, TAB);
     let note = put_pairs(buffer, digits, &memory[from..to]);
-    let feed = put_note(buffer, note, whole, i);
+    let feed = put_note(buffer, note, whole, memory, address);
     put_byte(buffer, feed, LINE_FEED)
 }

@@ -1,22 +1,18 @@
 // What a line takes in.
+use encoding::refused;
 use lookup::size_of;
-use machine::Status;
 ghost use mathlib.Core.Path.{_≡_};
 ghost use Prim.Native.Nat.{_+_, _^_, _≤_, _<_};
-ghost use lib.ListN.{length};
+ghost use lib.ListN.{length, getD};
 ghost use Rattle.machine.specs.Memory.{lent};
-ghost use Rattle.machine.specs.Fetch.{sizeAt, fetch as fetchOf};
-ghost use Rattle.writing.specs.Text.{starts as startsOf, whole as wholeOf, crosses as crossesOf, lineBytes};
+ghost use Rattle.machine.specs.Fetch.{sizeAt};
+ghost use Rattle.writing.specs.Text.{startsAt, whole as wholeOf, crosses as crossesOf};
 
-fn starts(status: Status) -> bool
-    ensures { λ r. ⌜ r ≡ startsOf status ⌝ }
+// A byte of memory, or 0 behind it.
+pub fn byte_at(memory: &[u8], at: usize) -> u8
+    ensures { λ r. ⌜ r ≡ getD (now (memory .entry)) at 0 ⌝ }
 {
-    match status {
-        Status::Aok => true,
-        Status::Hlt => true,
-        Status::Adr => false,
-        Status::Ins => false,
-    }
+    if at < memory.len() { memory[at] } else { 0 }
 }
 
 // The table length of the instruction at an address.
@@ -29,18 +25,33 @@ pub fn size_at(memory: &[u8], address: u64) -> u64
     size_of(first / 16) as u64
 }
 
+// An instruction starts at an address: its bytes are there, and an encoder would take what they say. The clock's fetch is not called: with two callers
+// it would not be compiled in place in the clock.
+pub fn starts(memory: &[u8], address: u64, size: u64) -> bool
+    requires { ⌜ (address < length (now memory)) × (size ≡ sizeAt (lent (now memory)) address) × (length (now memory) ≤ 65536) ⌝ }
+    ensures { λ r. ⌜ r ≡ startsAt (lent (now (memory .entry))) address ⌝ }
+{
+    let at = address as usize;
+    let first = byte_at(memory, at);
+    let pair = byte_at(memory, at + 1);
+    let there = size <= memory.len() as u64 - address;
+    let code = (first / 16) as u64;
+    let function = (first % 16) as u64;
+    there & !refused(code, function, (pair / 16) as u64, (pair % 16) as u64, 0)
+}
+
 // The line at an address is an instruction.
-pub fn whole(memory: &[u8], status: Status, size: u64, address: u64, end: u64, cut: bool) -> bool
-    requires { ⌜ (status ≡ fetchOf (lent (now memory)) address .status) × (size ≡ sizeAt (lent (now memory)) address) × (address + size < 2 ^ 64) ⌝ }
+pub fn whole(memory: &[u8], started: bool, size: u64, address: u64, end: u64, cut: bool) -> bool
+    requires { ⌜ (started ≡ startsAt (lent (now memory)) address) × (size ≡ sizeAt (lent (now memory)) address) × (address + size < 2 ^ 64) ⌝ }
     ensures { λ r. ⌜ r ≡ wholeOf cut (lent (now (memory .entry))) address end ⌝ }
 {
-    !cut & (starts(status) & (address + size <= end))
+    !cut & (started & (address + size <= end))
 }
 
 // The rest of the range is single bytes.
-pub fn crosses(memory: &[u8], status: Status, size: u64, address: u64, end: u64, cut: bool) -> bool
-    requires { ⌜ (status ≡ fetchOf (lent (now memory)) address .status) × (size ≡ sizeAt (lent (now memory)) address) × (address + size < 2 ^ 64) ⌝ }
+pub fn crosses(memory: &[u8], started: bool, size: u64, address: u64, end: u64, cut: bool) -> bool
+    requires { ⌜ (started ≡ startsAt (lent (now memory)) address) × (size ≡ sizeAt (lent (now memory)) address) × (address + size < 2 ^ 64) ⌝ }
     ensures { λ r. ⌜ r ≡ crossesOf cut (lent (now (memory .entry))) address end ⌝ }
 {
-    cut | (starts(status) & !(address + size <= end))
+    cut | (started & !(address + size <= end))
 }

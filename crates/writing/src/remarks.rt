@@ -1,17 +1,25 @@
 // The remark of a line: the instruction in CS:APP's notation, constants in unsigned decimal and never left out.
+use crate::reaching::byte_at;
 use crate::words::put_mnemonic;
 use crate::words::put_register;
-use machine::Instruction;
-use machine::Status;
+use lookup::size_of;
 use text::put_byte;
 use text::put_decimal;
 use text::put_text;
+ghost use mathlib.Core.Path.{_≡_};
+ghost use mathlib.Core.Bool.{cond};
 ghost use mathlib.Core.List.{_++_};
-ghost use Prim.Native.Nat.{_+_, _^_, _≤_, _<_};
+ghost use Prim.Native.Nat.{_+_, _-_, _^_, _≤_, _<_};
+ghost use lib.Dec.{ltb};
 ghost use lib.ListN.{length, getD};
+ghost use Rattle.machine.specs.declared.Status.the-variants.{Aok as aok};
+ghost use Rattle.machine.specs.Fetch.{sizeAt};
+ghost use Rattle.machine.specs.Memory.{lent};
+ghost use Rattle.machine.specs.Words.{number};
 ghost use Rattle.text.specs.Decimal.{decimal};
 ghost use Rattle.text.specs.Put.{Put};
 ghost use Rattle.writing.specs.Remark.{operandsOf, nothing, operands, pair, immediate, store, load, register, remark};
+ghost use Rattle.writing.specs.There.{thereAt};
 
 // A register behind up to three bytes.
 fn put_then_register(buffer: &mut [u8], at: usize, text: &[u8], number: u8) -> usize
@@ -96,20 +104,27 @@ fn put_operands(buffer: &mut [u8], at: usize, code: u8, ra: u8, rb: u8, constant
     }
 }
 
-// An instruction as it was fetched; a halt is fetched as a nop with HLT.
-pub fn put_remark(buffer: &mut [u8], at: usize, i: Instruction) -> usize
-    requires { ⌜ at + 48 < 2 ^ 64 ⌝ }
-    ensures { λ r. ⌜ Put (remark (i .status) i) at (now (buffer .entry)) r (now (buffer .exit)) ⌝ }
+// The last eight bytes of an instruction that is longer than that.
+fn constant_at(memory: &[u8], address: u64, size: u8) -> u64
+    requires { ⌜ address + size ≤ length (now memory) ⌝ }
+    ensures { λ r. ⌜ r ≡ cond (ltb 8 size) (number 8 (now (memory .entry)) (address + (size - 8))) 0 ⌝ }
+{
+    if 8 < size {
+        return word::load(memory, address + (size - 8) as u64);
+    }
+    0
+}
+
+// An instruction that is fetched; a half of the register byte that names none is not shown, and a halt has its name as all others.
+pub fn put_remark(buffer: &mut [u8], at: usize, memory: &[u8], address: u64) -> usize
+    requires { ⌜ (at + 48 < 2 ^ 64) × (address + sizeAt (lent (now memory)) address ≤ length (now memory)) × (length (now memory) ≤ 65536) ⌝ }
+    ensures { λ r. ⌜ Put (remark aok (thereAt (lent (now (memory .entry))) address)) at (now (buffer .entry)) r (now (buffer .exit)) ⌝ }
     ensures { λ r. ⌜ r ≤ at + 48 ⌝ }
 {
-    let status = i.status;
-    match status {
-        Status::Aok => {
-            let next = put_mnemonic(buffer, at, i.code, i.function);
-            put_operands(buffer, next, i.code, i.ra, i.rb, i.constant)
-        }
-        Status::Hlt => put_mnemonic(buffer, at, 0, 0),
-        Status::Adr => at,
-        Status::Ins => at,
-    }
+    let first = byte_at(memory, address as usize);
+    let pair = byte_at(memory, address as usize + 1);
+    let code = first / 16;
+    let constant = constant_at(memory, address, size_of(code));
+    let next = put_mnemonic(buffer, at, code, first % 16);
+    put_operands(buffer, next, code, pair / 16, pair % 16, constant)
 }

@@ -25,6 +25,7 @@ pub mod report;
 pub mod stages;
 pub mod table;
 pub mod word;
+pub mod writing;
 
 pub use fault::Reason;
 pub use machine::{Refusal, Registers, Status, REGISTER_COUNT, RSP};

@@ -29,7 +29,7 @@ put-note-requires : tie.Need-put-note-requires
 put-note-requires c κs =
     let pairs = c .before .before .before in
     let start = pairs .before .before .before .before .before .before .before .before .before .before .before .before .before in
-    omega (arith, pairs-place (start .args .memory .now) (start .args .address) (start .args .count) (start .pre .2) (pairs .put-pairs .ensures))
+    (omega (arith, pairs-place (start .args .memory .now) (start .args .address) (start .args .count) (start .pre .2) (pairs .put-pairs .ensures)), start .pre .3, start .pre .4)
 
 put-byte-requires-2 : tie.Need-put-byte-requires-2
 put-byte-requires-2 c κs =

@@ -8,7 +8,10 @@ put-byte-requires : tie.Need-put-byte-requires
 put-byte-requires c κs = search needs
 
 put-remark-requires : tie.Need-put-remark-requires
-put-remark-requires c κs = search needs
+put-remark-requires c κs =
+    let start : tie.Start = search in
+    let taken : tie.Then1 = search in
+    (omega arith, start .pre .1 (taken .if1 .taken), start .pre .2)
 
 same-length : tie.Need-same-length
 same-length c = search needs

@@ -3,14 +3,11 @@ use borrow.Author.Needs.{needs}
 use Rattle.writing.proofs.reaching.crosses.Statement.{statement}
 use Rattle.writing.proofs.reaching.crosses.Tie as tie
 
-starts-requires : tie.Need-starts-requires
-starts-requires c κs = search needs
-
 add-result : tie.Need-add-result
 add-result c = search needs
 
 returns : tie.Need-returns
-returns c = crosses-is _ _ _ _ _ _ _ (c .before .before .pre .0) (c .before .before .pre .1) (c .starts .ensures)
+returns c = search (needs, crosses-is)
 
 pub crosses-spec : {M : Type 1} → statement M
-crosses-spec = tie.close (tie.spec starts-requires add-result returns)
+crosses-spec = tie.close (tie.spec add-result returns)

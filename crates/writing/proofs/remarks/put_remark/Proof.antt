@@ -1,11 +1,28 @@
-use Rattle.writing.proofs.Notation.{aok-remark, hlt-remark, adr-remark, ins-remark}
-use borrow.Author.Needs.{needs}
+use Rattle.writing.proofs.There.{size-is, shown}
+use Rattle.machine.specs.Memory.{lent}
 use native.Mathlib.Omega.{arith}
+use borrow.Author.Needs.{needs}
 use Rattle.writing.proofs.remarks.put_remark.Statement.{statement}
 use Rattle.writing.proofs.remarks.put_remark.Tie as tie
 
-enum-told : tie.Need-enum-told
-enum-told c = search needs
+byte-at-requires : tie.Need-byte-at-requires
+byte-at-requires c κs = search needs
+
+add-byte-at : tie.Need-add-byte-at
+add-byte-at c = search needs
+
+byte-at-requires-2 : tie.Need-byte-at-requires-2
+byte-at-requires-2 c κs = search needs
+
+size-of-requires : tie.Need-size-of-requires
+size-of-requires c κs = search needs
+
+constant-at-requires : tie.Need-constant-at-requires
+constant-at-requires c κs =
+    let first : tie.After-byte-at = search in
+    let long : tie.After-size-of = search in
+    let start : tie.Start = search in
+    omega (arith, start .pre .1, size-is (lent (start .args .memory .now)) _ _ _ (first .byte-at .ensures) (long .size-of .ensures))
 
 put-mnemonic-requires : tie.Need-put-mnemonic-requires
 put-mnemonic-requires c κs = search needs
@@ -13,50 +30,22 @@ put-mnemonic-requires c κs = search needs
 put-operands-requires : tie.Need-put-operands-requires
 put-operands-requires c κs = search needs
 
-enum-told-2 : tie.Need-enum-told-2
-enum-told-2 c = search needs
-
-put-mnemonic-requires-2 : tie.Need-put-mnemonic-requires-2
-put-mnemonic-requires-2 c κs = search needs
-
-enum-told-3 : tie.Need-enum-told-3
-enum-told-3 c = search needs
-
-enum-told-4 : tie.Need-enum-told-4
-enum-told-4 c = search needs
-
 same-length : tie.Need-same-length
 same-length c = search needs
 
 returns : tie.Need-returns
-returns c = (search (needs, aok-remark), omega arith)
-
-same-length-2 : tie.Need-same-length-2
-same-length-2 c = search needs
-
-returns-2 : tie.Need-returns-2
-returns-2 c = (search (needs, hlt-remark), omega arith)
-
-returns-3 : tie.Need-returns-3
-returns-3 c = (search (needs, adr-remark), omega arith)
-
-returns-4 : tie.Need-returns-4
-returns-4 c = (search (needs, ins-remark), omega arith)
+returns c = (search (needs, shown), omega arith)
 
 pub put-remark-spec : {M : Type 1} → statement M
 put-remark-spec =
     tie.close
     (tie.spec
-    enum-told
+    byte-at-requires
+    add-byte-at
+    byte-at-requires-2
+    size-of-requires
+    constant-at-requires
     put-mnemonic-requires
     put-operands-requires
-    enum-told-2
-    put-mnemonic-requires-2
-    enum-told-3
-    enum-told-4
     same-length
-    returns
-    same-length-2
-    returns-2
-    returns-3
-    returns-4)
+    returns)
