@@ -104,45 +104,43 @@ fn the_exit_status_tells_the_outcome() {
     }
 }
 
+/// Images whose run ends by a bad fetch or a failing access: a name, the bytes,
+/// and how the reason ends.
+const FAULTS: [(&str, &str, &str); 7] = [
+    ("first", "10", "the byte at 0x1 is not in memory"),
+    ("code", "10d0", "0xd0 at 0x1 is no instruction code"),
+    ("function", "64", "0x64 at 0x0: code 6 has no function 4"),
+    (
+        "later",
+        "1030f1",
+        "goes on to the byte at 0x3, which is not in memory",
+    ),
+    (
+        "register",
+        "60f0",
+        "the register byte at 0x1 names register 15",
+    ),
+    (
+        "access",
+        "10400001000000000000ff",
+        "the instruction at 0x1 reads or writes a word that is not in memory",
+    ),
+    (
+        // The store at 0 writes a nop over the code d0 behind it.
+        "changed",
+        "40010a00000000000000d0000000000000000000",
+        "the byte at 0xa was no instruction code",
+    ),
+];
+
 /// #107: which byte was at fault, in words, by every engine that tells it.
 #[test]
 fn a_failed_fetch_is_told_in_words() {
-    let cases = [
-        ("first", "10", "the byte at 0x1 is not in memory"),
-        ("code", "10d0", "0xd0 at 0x1 is no instruction code"),
-        ("function", "64", "0x64 at 0x0: code 6 has no function 4"),
-        (
-            "later",
-            "1030f1",
-            "goes on to the byte at 0x3, which is not in memory",
-        ),
-        (
-            "register",
-            "60f0",
-            "the register byte at 0x1 names register 15",
-        ),
-        (
-            "access",
-            "10400001000000000000ff",
-            "the instruction at 0x1 reads or writes a word that is not in memory",
-        ),
-        (
-            // The store at 0 writes a nop over the code d0 behind it.
-            "changed",
-            "40010a00000000000000d0",
-            "the byte at 0xa was no instruction code",
-        ),
-    ];
     let mut block = [0; 120];
     block[..8].fill(0x10);
     let registers = file("nops", &block);
-    for (name, image, says) in cases {
-        let bytes = [
-            from_hex(image),
-            vec![0; if name == "changed" { 9 } else { 0 }],
-        ]
-        .concat();
-        let path = file(&format!("fault_{name}"), &bytes);
+    for (name, image, says) in FAULTS {
+        let path = file(&format!("fault_{name}"), &from_hex(image));
         let words = ["replay", &path, "--registers", &registers];
         let second = said(&[&words[..], &["--second"]].concat());
         let line = second.1.lines().nth(1).unwrap_or("");

@@ -129,11 +129,6 @@ fn parse(memory: &[u8], address: u64) -> Result<Instruction, Bad> {
     if first == 0 {
         return Err(Bad::halt());
     }
-    let constant = if length > 8 {
-        &later[later.len() - 8..]
-    } else {
-        &[]
-    };
     Ok(Instruction {
         address,
         status: Status::Aok,
@@ -141,13 +136,23 @@ fn parse(memory: &[u8], address: u64) -> Result<Instruction, Bad> {
         function,
         ra,
         rb,
-        constant: constant
-            .iter()
-            .rev()
-            .fold(0, |sum, byte| sum << 8 | u64::from(*byte)),
+        constant: constant(&later),
         next: address.wrapping_add(length),
         reason: Reason::None,
     })
+}
+
+/// The constant of an instruction with these bytes behind the first: the last
+/// eight, if it is long enough to have one.
+fn constant(later: &[u8]) -> u64 {
+    let bytes = match later.len() {
+        8.. => &later[later.len() - 8..],
+        _ => &[],
+    };
+    bytes
+        .iter()
+        .rev()
+        .fold(0, |sum, byte| sum << 8 | u64::from(*byte))
 }
 
 fn byte(memory: &[u8], address: u64) -> Option<u8> {
