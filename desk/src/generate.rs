@@ -16,7 +16,7 @@ pub use ranges::{Range, Ranges};
 pub use records::Record;
 
 use crate::second::machine::{CYCLE_LIMIT, MEMORY_LIMIT, PROGRAM_LIMIT};
-use crate::second::replay::{Chosen, FULL_BYTES, REGISTER_BYTES, RESULT_BYTES};
+use crate::second::replay::{read_registers, Chosen, FULL_BYTES, REGISTER_BYTES, RESULT_BYTES};
 
 /// What a case is made to try.
 #[derive(Clone, Copy, Debug, PartialEq, Eq)]
@@ -77,6 +77,8 @@ pub struct Case {
     pub start: u64,
     pub codes: u64,
     pub budget: u64,
+    /// Where the code that a plan laid over the image ends.
+    pub code_end: usize,
 }
 
 /// Makes one case after the other.
@@ -142,6 +144,7 @@ impl Generator {
             start: program.start,
             codes: self.random.below(8),
             budget: self.budget(),
+            code_end: program.code_end,
         }
     }
 
@@ -156,6 +159,37 @@ impl Generator {
         };
         let chosen = self.chosen();
         (case, chosen)
+    }
+
+    /// The next case with settings, and a seam for its memory (#110).
+    pub fn split_case(&mut self) -> (Case, Chosen, usize) {
+        let (case, chosen) = self.set_case();
+        let seam = self.seam(&case);
+        (case, chosen, seam)
+    }
+
+    /// A seam in the image of a case: where its code ends, near a place that
+    /// its code or its registers lead to, anywhere, or at one of the ends, so
+    /// that one part is empty.
+    pub fn seam(&mut self, case: &Case) -> usize {
+        let random = &mut self.random;
+        let size = case.image.len();
+        let registers = read_registers(&case.registers).0;
+        let few = random.below(24) as usize;
+        let near = |place: u64| {
+            let place = usize::try_from(place).unwrap_or(size).min(size);
+            (place + few).saturating_sub(12)
+        };
+        let seam = match random.below(12) {
+            0..=3 => case.code_end,
+            4 => near(case.code_end as u64),
+            5 => near(case.start + random.below(60)),
+            6 | 7 => near(random.pick(&registers)),
+            8 => near(size as u64),
+            9 => random.pick(&[0, size]),
+            _ => random.below(size as u64 + 1) as usize,
+        };
+        seam.min(size)
     }
 
     /// Settings as numbers.

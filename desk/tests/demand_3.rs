@@ -3,10 +3,12 @@
 
 mod common;
 
-use common::{codes, plain, settings};
+use common::tally::Tally;
+use common::{codes, plain, seams, settings};
 use desk::generate::{Case, Generator, Kind};
 use desk::second::account::{Account, Kind as Charge, Performed};
 use desk::second::machine::Status;
+use desk::second::memory::Memory;
 use desk::second::pipeline::{Kinds, Logs, Pipeline, Settings};
 use desk::second::plain::Plain;
 use desk::second::replay::read_registers;
@@ -32,6 +34,8 @@ struct Seen {
     guessed: Guessed,
     /// Stores and calls behind loads of a register of theirs, charged or not.
     stores: BTreeMap<(&'static str, bool), usize>,
+    /// Runs with all instructions in the program part; those of them that store.
+    read_only: [usize; 2],
 }
 
 /// The iaddq among them: how many, by -2^63, by 2^63 - 1, and charged for a
@@ -133,21 +137,30 @@ fn pipeline(case: &Case, settings: Settings) -> Pipeline {
 struct Follower {
     machine: Plain,
     memory: Vec<u8>,
+    seam: usize,
 }
 
 impl Follower {
-    fn new(case: &Case) -> Follower {
+    fn new(case: &Case, seam: usize) -> Follower {
         let registers = read_registers(&case.registers);
         Follower {
             machine: plain(&case.image, registers, codes(case.codes), case.start),
             memory: case.image.clone(),
+            seam,
         }
     }
 
     fn reach(&mut self, count: usize) {
+        let mut memory = Memory::split(&mut self.memory, self.seam);
         while self.machine.count < count as u64 {
-            self.machine.perform(&mut self.memory);
+            self.machine.perform(&mut memory);
         }
+    }
+
+    /// The account of its run from here on, which it performs.
+    fn account(&mut self, settings: Settings) -> Account {
+        let memory = Memory::split(&mut self.memory, self.seam);
+        Account::of(&mut self.machine, memory, MOST, settings)
     }
 }
 
@@ -172,7 +185,7 @@ fn compare_kind(kind: Kind, settings: Settings) {
         _ => PROGRAMS,
     };
     for _ in 0..programs {
-        compare(&generator.case_of(kind), settings, &mut seen);
+        compare(&generator.case_of(kind), 0, settings, &mut seen);
     }
     println!("{}, {settings:?}: {seen:?}", kind.name());
     assert!(seen.whole > programs / 8, "{} {seen:?}", kind.name());
@@ -198,10 +211,50 @@ fn compare_kind(kind: Kind, settings: Settings) {
     }
 }
 
-/// Runs the pipeline clock by clock against the account of the plain history.
-fn compare(case: &Case, settings: Settings, seen: &mut Seen) {
-    let mut whole = Follower::new(case);
-    let account = Account::of(&mut whole.machine, &mut whole.memory, MOST, settings);
+/// #110: over two memories, with the seam at all kinds of places.
+#[test]
+fn the_pipeline_meets_the_account_over_two_memories() {
+    let mut tally = Tally::default();
+    let mut seen = Seen::default();
+    for kind in Kind::ALL {
+        let mut generator = Generator::new(0x110 + kind as u64);
+        let programs = match kind {
+            Kind::Refusals => 0,
+            Kind::Large => PROGRAMS / 20,
+            _ => PROGRAMS / 2,
+        };
+        for _ in 0..programs {
+            let case = generator.case_of(kind);
+            let seam = generator.seam(&case);
+            for settings in settings::ALL {
+                compare(&case, seam, settings, &mut seen);
+            }
+            count_seam(&mut tally, &case, seam);
+        }
+    }
+    println!("{seen:?}");
+    println!("{}", tally.table(seams::CLASSES));
+    tally.check(seams::CLASSES, 20);
+    assert!(seen.read_only.iter().all(|runs| *runs > 1_000));
+    assert!(seen.faults.iter().all(|stops| *stops > 20));
+}
+
+/// Counts what the plain engine does around the seam.
+fn count_seam(tally: &mut Tally, case: &Case, seam: usize) {
+    let mut plain = Follower::new(case, seam);
+    let extent = Memory::split(&mut plain.memory, seam).extent();
+    tally.count("memory", seams::parts_name(extent));
+    while plain.machine.status == Status::Aok && plain.machine.count < MOST as u64 {
+        seams::count_performed(tally, &plain.machine, &plain.memory, extent);
+        plain.reach(plain.machine.count as usize + 1);
+    }
+}
+
+/// Runs the pipeline clock by clock against the account of the plain history,
+/// over memory with a seam, 0 for one memory.
+fn compare(case: &Case, seam: usize, settings: Settings, seen: &mut Seen) {
+    let mut whole = Follower::new(case, seam);
+    let account = whole.account(settings);
     let reach = account.premise_reach();
     let over = account.stopped && reach == account.performed.len();
     let last_clock = match reach {
@@ -210,13 +263,10 @@ fn compare(case: &Case, settings: Settings, seen: &mut Seen) {
     };
     let mut memory = case.image.clone();
     let mut machine = pipeline(case, settings);
-    let mut plain = [
-        Follower::new(case),
-        Follower::new(case),
-        Follower::new(case),
-    ];
+    let mut plain = [(); 3].map(|()| Follower::new(case, seam));
     for clock in 1..=last_clock {
-        machine.clock(&mut memory).expect("a clock");
+        let lent = Memory::split(&mut memory, seam);
+        machine.clock(lent).expect("a clock");
         compare_clock(&account, &machine, clock, &mut plain[0]);
         compare_ahead(&account, (&machine, &memory), clock, &mut plain[1..]);
     }
@@ -225,6 +275,7 @@ fn compare(case: &Case, settings: Settings, seen: &mut Seen) {
         seen.stops[machine.status.number() as usize] += 1;
         seen.faults[machine.fault.reason.number() as usize] += 1;
     }
+    count_read_only(&account, seam, seen);
     seen.whole += usize::from(over);
     seen.cut += usize::from(!over);
     seen.retired += machine.retired;
@@ -233,6 +284,18 @@ fn compare(case: &Case, settings: Settings, seen: &mut Seen) {
     let charged = [kinds.load_use, kinds.mispredict, kinds.returns];
     for (sum, cycles) in seen.charged.iter_mut().zip(charged) {
         *sum += cycles;
+    }
+}
+
+/// #110: where every performed instruction lies in the program part, the premise
+/// on stores is met by itself.
+fn count_read_only(account: &Account, seam: usize, seen: &mut Seen) {
+    let inside = |one: &Performed| !one.own_bytes.is_empty() && one.own_bytes.end <= seam as u64;
+    if account.stopped && account.performed.iter().all(inside) {
+        assert_eq!(account.premise_reach(), account.performed.len());
+        let stores = account.performed.iter().any(|one| !one.written.is_empty());
+        seen.read_only[0] += 1;
+        seen.read_only[1] += usize::from(stores);
     }
 }
 
@@ -370,8 +433,7 @@ fn logs_show_the_account() {
 }
 
 fn compare_logs(case: &Case, settings: Settings) {
-    let mut whole = Follower::new(case);
-    let account = Account::of(&mut whole.machine, &mut whole.memory, MOST, settings);
+    let account = Follower::new(case, 0).account(settings);
     let reach = account.premise_reach();
     if reach == 0 {
         return;

@@ -10,7 +10,9 @@ use desk::second::account::Account;
 use desk::second::arithmetic::operate;
 use desk::second::fault::Fault;
 use desk::second::machine::Registers;
-use desk::second::pipeline::{Logs, Settings};
+use desk::second::memory::Memory;
+use desk::second::pipeline::{Logs, Pipeline, Settings};
+use desk::second::plain::Plain;
 use desk::second::word;
 use desk::second::{y86run, Reason, Status, RSP};
 
@@ -99,6 +101,67 @@ fn a_fault_is_told_at_the_stop() {
     assert_eq!((machine.status, machine.fault), (Status::Ins, told));
     machine.clock(&mut memory).expect("a clock");
     assert_eq!((machine.cycles, machine.fault), (5, told));
+}
+
+/// #110: one row a line: the program bytes, the writable bytes, and the stop by
+/// both engines with the reason and the byte at fault. rdx is the address that
+/// the row's access uses.
+#[test]
+fn two_memories_part_at_the_seam() {
+    let nops = "10101010101010101010";
+    let store = "40020000000000000000";
+    let load = "50020000000000000000";
+    let cases = [
+        // A store at the seam is done, just before it and in the program it fails.
+        (format!("{store}00"), "00".repeat(8), 11, Status::Hlt, 10),
+        (format!("{store}00"), "00".repeat(8), 10, Status::Adr, 0),
+        (format!("{store}00"), "00".repeat(8), 0, Status::Adr, 0),
+        (format!("{store}00"), "00".repeat(7), 11, Status::Adr, 0),
+        // A load from either part is done, across the seam it fails.
+        (format!("{load}00"), "00".repeat(8), 11, Status::Hlt, 10),
+        (format!("{load}00"), "00".repeat(8), 3, Status::Hlt, 10),
+        (format!("{load}00"), "00".repeat(8), 4, Status::Adr, 0),
+        // The way goes on over the seam, from instruction to instruction.
+        (nops.into(), "1000".into(), 0, Status::Hlt, 11),
+        (String::new(), "1000".into(), 0, Status::Hlt, 1),
+        ("1000".into(), String::new(), 0, Status::Hlt, 1),
+    ];
+    for (program, writable, rdx, status, last) in cases {
+        let (machine, plain) = run_split(&from_hex(&program), &from_hex(&writable), rdx);
+        assert_eq!((machine.status, machine.last), (status, last), "{program}");
+        assert_eq!((plain.status, plain.last), (status, last), "{program}");
+        assert_eq!(machine.fault, Fault::default());
+        assert_eq!(plain.fault, machine.fault);
+    }
+    let crossing = [
+        ("1030f0", "000000000000000000", Reason::LaterMissing, 3),
+        ("1030", "", Reason::LaterMissing, 2),
+        ("10", "60", Reason::LaterMissing, 2),
+        ("60", "00", Reason::LaterMissing, 1),
+        ("64", "00", Reason::Function, 0),
+        ("10", "10", Reason::FirstMissing, 2),
+    ];
+    for (program, writable, reason, address) in crossing {
+        let (machine, plain) = run_split(&from_hex(program), &from_hex(writable), 0);
+        let fault = Fault { reason, address };
+        assert_eq!((machine.fault, plain.fault), (fault, fault), "{program}");
+    }
+}
+
+/// Both engines over two memories from address 0, with a value in rdx.
+fn run_split(program: &[u8], writable: &[u8], rdx: u64) -> (Pipeline, Plain) {
+    let (given, size) = (registers(&[(2, rdx)]), program.len() + writable.len());
+    let mut bytes = [program, writable].concat();
+    let mut machine = pipeline(&bytes, given, codes(4), 0);
+    let mut plain = plain(&bytes, given, codes(4), 0);
+    let mut other = bytes.clone();
+    let lent = Memory::split(&mut bytes, program.len());
+    machine.run(lent, 400, None).expect("a run");
+    let lent = Memory::split(&mut other, program.len());
+    plain.run(lent, 400, None).expect("a run");
+    assert_eq!(bytes, other);
+    assert_eq!((&bytes[..program.len()], bytes.len()), (program, size));
+    (machine, plain)
 }
 
 #[test]

@@ -4,12 +4,13 @@
 mod common;
 
 use common::tally::{Classes, Tally};
-use common::{codes, pipeline, settings};
+use common::{codes, pipeline, seams, settings};
 use desk::generate::{Call, Calls, Generator, Origin, Way};
-use desk::second::fault::Stop;
+use desk::second::fault::{Reason, Stop};
 use desk::second::fetch::{fetch, Parts};
 use desk::second::letter;
 use desk::second::machine::{Refusal, Registers, Status};
+use desk::second::memory::{Extent, Memory};
 use desk::second::pipeline::{Logs, Pipeline, Settings};
 use desk::second::plain::Plain;
 use desk::second::replay::read_registers;
@@ -39,16 +40,16 @@ const CLASSES: &Classes = &[
 
 #[test]
 fn the_fast_engines_are_the_letters_equal() {
-    let mut calls = Calls::new(0x1e77e4);
+    let mut calls = Calls::splitting(0x1e77e4);
     let mut tally = Tally::default();
     for number in 0..CALLS {
         let (origin, call) = calls.call(Way::Logged);
-        let answer = compare_plain(call, number);
+        let answer = compare_plain(call, number, &mut tally);
         count(&mut tally, ["plain record", "plain answer"], origin, answer);
         let (origin, mut call) = calls.call(Way::Logged);
         fit(&mut call.record);
         settings::count(&mut tally, &call);
-        let answer = compare_pipelined(call, number);
+        let answer = compare_pipelined(call, number, &mut tally);
         count(
             &mut tally,
             ["pipeline record", "pipeline answer"],
@@ -65,7 +66,7 @@ fn the_fast_engines_are_the_letters_equal() {
         tally.count("start with late store data", late);
     }
     println!("compared {CALLS} calls of each engine, and as many starts");
-    let classes = [CLASSES, settings::CLASSES].concat();
+    let classes = [CLASSES, settings::CLASSES, seams::CALL_CLASSES].concat();
     println!("{}", tally.table(&classes));
     tally.check(&classes, 1);
 }
@@ -98,14 +99,19 @@ fn compare_starts(size: u64, start: u64, settings: Settings) -> Result<(), Refus
     fast.map(|_| ())
 }
 
-fn compare_plain(mut call: Call<letter::Machine>, number: u64) -> Result<(), Refusal> {
+fn compare_plain(
+    mut call: Call<letter::Machine>,
+    number: u64,
+    tally: &mut Tally,
+) -> Result<(), Refusal> {
     let (mut memory, mut log) = (call.memory.clone(), call.logs[0].clone());
     let mut fast = plain(&call.record);
-    let answer = fast.run(&mut memory, call.budget, Some(&mut log));
-    let given = call.record;
-    let expected = call
-        .record
-        .run(&mut call.memory, call.budget, &mut call.logs[0]);
+    let lent = Memory::split(&mut memory, call.seam);
+    let answer = fast.run(lent, call.budget, Some(&mut log));
+    let (given, extent) = (call.record, call.extent());
+    let lent = Memory::split(&mut call.memory, call.seam);
+    let expected = call.record.run(lent, call.budget, &mut call.logs[0]);
+    seams::count_plain(tally, &given, &call.record, extent);
     assert_eq!(answer, expected, "call {number}: {given:?}");
     assert_eq!(fast, plain(&call.record), "call {number}: {given:?}");
     assert!(
@@ -115,14 +121,19 @@ fn compare_plain(mut call: Call<letter::Machine>, number: u64) -> Result<(), Ref
     answer
 }
 
-fn compare_pipelined(mut call: Call<letter::Pipeline>, number: u64) -> Result<(), Refusal> {
+fn compare_pipelined(
+    mut call: Call<letter::Pipeline>,
+    number: u64,
+    tally: &mut Tally,
+) -> Result<(), Refusal> {
     let (mut memory, mut lent) = (call.memory.clone(), call.logs.clone());
     let mut fast = packed(&call.record);
-    let answer = fast.run(&mut memory, call.budget, Some(logs(&mut lent)));
-    let given = call.record;
-    let expected = call
-        .record
-        .run(&mut call.memory, call.budget, logs(&mut call.logs));
+    let parts = Memory::split(&mut memory, call.seam);
+    let answer = fast.run(parts, call.budget, Some(logs(&mut lent)));
+    let (given, extent) = (call.record, call.extent());
+    let parts = Memory::split(&mut call.memory, call.seam);
+    let expected = call.record.run(parts, call.budget, logs(&mut call.logs));
+    seams::count_pipelined(tally, &given, &call.record, extent);
     assert_eq!(answer, expected, "call {number}: {given:?}");
     assert_eq!(fast, packed(&call.record), "call {number}: {given:?}");
     assert!(memory == call.memory && lent == call.logs, "call {number}");
@@ -244,6 +255,7 @@ fn programs_are_the_letters_equal_by_every_setting() {
         let kind = generator.running_kind();
         let case = generator.case_of(kind);
         let budget = case.budget.min(400);
+        let seam = [0, generator.seam(&case)][number as usize % 2];
         for settings in settings::ALL {
             let record = letter::Pipeline::fresh(
                 case.image.len() as u64,
@@ -255,10 +267,12 @@ fn programs_are_the_letters_equal_by_every_setting() {
             let call = Call {
                 record: record.expect("a start"),
                 memory: case.image.clone(),
+                seam,
                 budget,
                 logs: vec![vec![7; budget as usize]; 2],
             };
-            assert_eq!(compare_pipelined(call, number), Ok(()));
+            let mut tally = Tally::default();
+            assert_eq!(compare_pipelined(call, number, &mut tally), Ok(()));
         }
     }
 }
@@ -266,18 +280,21 @@ fn programs_are_the_letters_equal_by_every_setting() {
 /// How often each filler was fetched with AOK, the fast way and by the letter.
 #[test]
 fn fetches_are_the_letters_equal() {
-    let mut calls = Calls::new(0xfe7c);
-    let (mut fillers, mut reasons) = ([0; 16], [0; 6]);
+    let mut calls = Calls::splitting(0xfe7c);
+    let (mut fillers, mut reasons, mut at_seam) = ([0; 16], [0; 6], 0);
     for number in 0..CALLS {
-        let (memory, address) = calls.fetch();
-        let (Ok(()), expected, at_fault) = letter::fetch_open(&memory, address) else {
+        let (mut memory, seam, address) = calls.fetch();
+        let extent = Memory::split(&mut memory, seam).extent();
+        let lent = Memory::split(&mut memory, seam);
+        let (Ok(()), expected, at_fault) = letter::fetch_open(lent, address) else {
             continue;
         };
-        let fast = fetch(&memory, address);
+        let fast = fetch(&Memory::split(&mut memory, seam), address);
         assert_eq!(fast, by_the_letter(&expected), "call {number}");
-        let derived = expected.reason.address(address, memory.len() as u64);
+        let derived = expected.reason.address(address, extent.code_end(address));
         assert_eq!(derived, at_fault, "call {number}");
         reasons[expected.reason.number() as usize] += 1;
+        at_seam += u64::from(crosses(extent, &expected, at_fault));
         if let Ok(Parts { code, .. }) = fast {
             let halves = memory.get(address as usize + 1);
             match (code, halves) {
@@ -288,8 +305,15 @@ fn fetches_are_the_letters_equal() {
         }
     }
     println!("compared {CALLS} fetches; fillers from 0 to 15: {fillers:?}");
-    println!("reasons from 0 to 5: {reasons:?}");
+    println!("reasons from 0 to 5: {reasons:?}; across the seam: {at_seam}");
+    assert!(at_seam > 20);
     assert!(fillers.iter().chain(&reasons).all(|count| *count > 0));
+}
+
+/// Whether an instruction crosses the seam, and so names it.
+fn crosses(memory: Extent, fetched: &letter::Instruction, at_fault: u64) -> bool {
+    let later = fetched.reason == Reason::LaterMissing;
+    later && at_fault == memory.seam && memory.seam < memory.size
 }
 
 /// What the fast fetch answers where the letter has this.

@@ -2,9 +2,10 @@
 //! hand, some of them to be refused for any reasons together.
 
 use super::records::{refused_rule, settings, Record};
-use super::{outside, refused_memory, Generator, Random};
+use super::{outside, refused_memory, Case, Generator, Random};
 use crate::second::arithmetic::Codes;
-use crate::second::machine::{Registers, MEMORY_LIMIT, PROGRAM_LIMIT};
+use crate::second::machine::{MEMORY_LIMIT, PROGRAM_LIMIT};
+use crate::second::memory::{Extent, Memory};
 use crate::second::pipeline::Settings;
 use crate::second::replay::read_registers;
 use crate::second::table::row_of;
@@ -13,10 +14,26 @@ use crate::second::table::row_of;
 #[derive(Clone, Debug, PartialEq, Eq)]
 pub struct Call<R> {
     pub record: R,
+    /// All bytes, of which those up to the seam are the program's (#110).
     pub memory: Vec<u8>,
+    pub seam: usize,
     pub budget: u64,
     /// The lent logs, none for a run without.
     pub logs: Vec<Vec<u64>>,
+}
+
+impl<R> Call<R> {
+    /// The memory as it is lent.
+    pub fn lent(&mut self) -> Memory<'_> {
+        Memory::split(&mut self.memory, self.seam)
+    }
+
+    pub fn extent(&self) -> Extent {
+        Extent {
+            seam: self.seam as u64,
+            size: self.memory.len() as u64,
+        }
+    }
 }
 
 /// Where the record of a call comes from.
@@ -39,6 +56,8 @@ pub enum Way {
 pub struct Calls {
     random: Random,
     programs: Generator,
+    /// Whether memory may be lent in two parts.
+    splits: bool,
 }
 
 impl Calls {
@@ -46,12 +65,21 @@ impl Calls {
         Calls {
             random: Random::new(seed),
             programs: Generator::new(seed.rotate_left(32)),
+            splits: false,
+        }
+    }
+
+    /// Calls of which half have memory in two parts.
+    pub fn splitting(seed: u64) -> Calls {
+        Calls {
+            splits: true,
+            ..Calls::new(seed)
         }
     }
 
     /// The next call of one engine; one in four is spoilt.
     pub fn call<R: Record>(&mut self, way: Way) -> (Origin, Call<R>) {
-        let (origin, mut record, mut memory) = self.record::<R>();
+        let (origin, mut record, mut memory, seam) = self.record::<R>();
         let random = &mut self.random;
         let spoilt = random.chance(1, 4);
         let mut spoil = || spoilt && random.chance(1, 2);
@@ -77,6 +105,7 @@ impl Calls {
         };
         let call = Call {
             record,
+            seam: seam.min(memory.len()),
             memory,
             budget,
             logs,
@@ -84,9 +113,11 @@ impl Calls {
         (origin, call)
     }
 
-    /// A record with memory for it.
-    fn record<R: Record>(&mut self) -> (Origin, R, Vec<u8>) {
-        let (mut memory, registers, start) = self.program();
+    /// A record with memory for it, and a seam in it.
+    fn record<R: Record>(&mut self) -> (Origin, R, Vec<u8>, usize) {
+        let (case, seam) = self.program();
+        let (mut memory, start) = (case.image, case.start);
+        let registers = read_registers(&case.registers);
         let random = &mut self.random;
         let codes = any_codes(random);
         let mut record = R::fresh(random, registers, codes, start, memory.len());
@@ -106,19 +137,23 @@ impl Calls {
             Origin::Fresh => {}
             Origin::Reached => {
                 for _ in 0..1 + random.below(30) {
-                    record.advance(&mut memory);
+                    record.advance(Memory::split(&mut memory, seam));
                 }
             }
             Origin::HandMade => record = R::made(random, memory.len()),
         }
-        (origin, record, memory)
+        (origin, record, memory, seam)
     }
 
-    /// A program's memory, registers and start.
-    fn program(&mut self) -> (Vec<u8>, Registers, u64) {
+    /// A program, and a seam in its memory, 0 for one memory.
+    fn program(&mut self) -> (Case, usize) {
         let kind = self.programs.running_kind();
         let case = self.programs.case_of(kind);
-        (case.image, read_registers(&case.registers), case.start)
+        let seam = match self.splits && self.random.chance(1, 2) {
+            true => self.programs.seam(&case),
+            false => 0,
+        };
+        (case, seam)
     }
 
     /// A memory size and an address for a fresh start, inside and outside of
@@ -148,9 +183,11 @@ impl Calls {
         self.random.pick(&[allowed, allowed, refused])
     }
 
-    /// Memory and an address to fetch from, inside and outside of all limits.
-    pub fn fetch(&mut self) -> (Vec<u8>, u64) {
-        let (mut memory, _, start) = self.program();
+    /// Memory, its seam and an address to fetch from, inside and outside of all
+    /// limits.
+    pub fn fetch(&mut self) -> (Vec<u8>, usize, u64) {
+        let (case, seam) = self.program();
+        let (mut memory, start) = (case.image, case.start);
         let random = &mut self.random;
         if random.chance(1, 8) {
             memory = refused_memory(random);
@@ -162,12 +199,14 @@ impl Calls {
             1 if random.chance(1, 2) => PROGRAM_LIMIT as u64 + 2 - few,
             1 => random.pick(&[far, u64::MAX - few, size + few, 1 << 32, 1 << 63]),
             2 => start,
+            3 if seam > 0 => (seam as u64 + 2).wrapping_sub(few),
             _ => far % (size + 1),
         };
         if random.chance(1, 2) {
             lay_instruction(random, &mut memory, address);
         }
-        (memory, address)
+        let seam = seam.min(memory.len());
+        (memory, seam, address)
     }
 }
 

@@ -13,6 +13,8 @@ pub struct Program {
     pub image: Vec<u8>,
     pub registers: [u64; REGISTER_COUNT],
     pub start: u64,
+    /// Where the code ends that was laid over the image, cut at its end.
+    pub code_end: usize,
 }
 
 /// Codes in the frequency in which a soup holds them.
@@ -56,6 +58,11 @@ impl Code {
     /// The address of the next instruction written.
     fn here(&self) -> u64 {
         self.origin.wrapping_add(self.bytes.len() as u64)
+    }
+
+    /// The address after the code, cut at the size of the image.
+    fn end(&self, size: usize) -> usize {
+        size.min(self.here() as usize)
     }
 
     /// Writes an instruction with the parts its code has.
@@ -142,6 +149,7 @@ pub fn random_bytes(random: &mut Random, size: usize) -> Program {
         image,
         registers: registers(random, size),
         start,
+        code_end: size,
     }
 }
 
@@ -163,6 +171,7 @@ pub fn soup(random: &mut Random, size: usize) -> Program {
         image,
         registers,
         start,
+        code_end: code.end(size),
     }
 }
 
@@ -237,6 +246,7 @@ pub fn loops(random: &mut Random, size: usize) -> Program {
         image,
         registers: registers(random, size),
         start: start.min(size as u64 - 1),
+        code_end: code.end(size),
     }
 }
 
@@ -331,6 +341,7 @@ pub fn ends(random: &mut Random, size: usize) -> Program {
         image,
         registers,
         start,
+        code_end: code.end(size),
     }
 }
 
@@ -383,6 +394,7 @@ pub fn large(random: &mut Random, size: usize) -> Program {
         image,
         registers,
         start: origin,
+        code_end: code.end(size),
     }
 }
 
@@ -413,6 +425,7 @@ pub fn charges(random: &mut Random, size: usize) -> Program {
         image,
         registers: registers(random, size),
         start: 0,
+        code_end: code.end(size),
     }
 }
 
@@ -563,6 +576,7 @@ pub fn self_modifying(random: &mut Random, size: usize) -> Program {
         image,
         registers,
         start: 0,
+        code_end: code.end(size),
     }
 }
 

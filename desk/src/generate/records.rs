@@ -6,6 +6,7 @@ use crate::second::arithmetic::Codes;
 use crate::second::fault::{Fault, Reason};
 use crate::second::letter::{Accessed, Decoded, Executed, Instruction, Machine, Pipeline, Retired};
 use crate::second::machine::{Registers, Status, CYCLE_LIMIT, PLAIN_LIMIT, REGISTER_COUNT, RSP};
+use crate::second::memory::Memory;
 use crate::second::pipeline::{Kinds, Settings};
 use crate::second::table::{row_of, CALL, CMOV, IADDQ, JXX, MRMOVQ, OPQ, POPQ, PUSHQ, RMMOVQ};
 use std::fmt::Debug;
@@ -28,7 +29,7 @@ pub trait Record: Clone + Debug + PartialEq {
     ) -> Self;
 
     /// One step or clock, by the letter.
-    fn advance(&mut self, memory: &mut [u8]);
+    fn advance(&mut self, memory: Memory);
 
     /// A record made by hand that is not refused for what it holds.
     fn made(random: &mut Random, size: usize) -> Self;
@@ -67,7 +68,7 @@ impl Record for Machine {
         Machine::fresh(size as u64, registers, codes, start).expect("a start")
     }
 
-    fn advance(&mut self, memory: &mut [u8]) {
+    fn advance(&mut self, memory: Memory) {
         self.step(memory).expect("a step");
     }
 
@@ -126,7 +127,7 @@ impl Record for Pipeline {
         Pipeline::fresh(size as u64, registers, codes, start, settings).expect("a start")
     }
 
-    fn advance(&mut self, memory: &mut [u8]) {
+    fn advance(&mut self, memory: Memory) {
         self.clock(memory).expect("a clock");
     }
 

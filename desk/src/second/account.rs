@@ -6,6 +6,7 @@
 
 use super::fetch::{fetch, own_bytes, Parts};
 use super::machine::{Status, NONE, RSP};
+use super::memory::Memory;
 use super::pipeline::Settings;
 use super::plain::Plain;
 use super::table::{row_of, CALL, CMOV, IADDQ, JXX, MRMOVQ, OPQ, POPQ, PUSHQ, RET, RMMOVQ};
@@ -40,7 +41,7 @@ pub struct Performed {
     pub charge: Option<Kind>,
     /// The cycle in which it is due to retire: k + 4 and the charges of 1 to k.
     pub due: u64,
-    /// The bytes it lies in, cut at N.
+    /// The bytes it lies in, cut at the end of its part of memory.
     pub own_bytes: Range<u64>,
     /// The bytes it wrote; a stopping instruction writes none.
     pub written: Range<u64>,
@@ -71,21 +72,27 @@ impl Account {
     /// The account of at most so many instructions from a record, for a
     /// pipeline with settings that are not refused; memory and record are left
     /// as the last of them left them.
-    pub fn of(machine: &mut Plain, memory: &mut [u8], most: usize, settings: Settings) -> Account {
+    pub fn of<'a>(
+        machine: &mut Plain,
+        memory: impl Into<Memory<'a>>,
+        most: usize,
+        settings: Settings,
+    ) -> Account {
+        let mut memory = memory.into();
         let mut account = Account {
             performed: Vec::new(),
             stopped: machine.status != Status::Aok,
             settings,
         };
         while !account.stopped && account.performed.len() < most {
-            let performed = account.perform(machine, memory);
+            let performed = account.perform(machine, &mut memory);
             account.performed.push(performed);
             account.stopped = machine.status != Status::Aok;
         }
         account
     }
 
-    fn perform(&self, machine: &mut Plain, memory: &mut [u8]) -> Performed {
+    fn perform(&self, machine: &mut Plain, memory: &mut Memory) -> Performed {
         let before = *machine;
         let own_bytes = own_bytes(memory, before.address);
         let parts = fetch(memory, before.address).ok();

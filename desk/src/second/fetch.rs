@@ -2,6 +2,7 @@
 
 use super::fault::{Reason, Stop};
 use super::machine::NONE;
+use super::memory::Memory;
 use super::table::{row_of, RegisterByte, Row, HALT};
 use super::word;
 
@@ -18,12 +19,12 @@ pub struct Parts {
 
 /// The instruction at an address, or what the first check that fails says.
 #[inline(always)]
-pub fn fetch(memory: &[u8], address: u64) -> Result<Parts, Stop> {
-    if address >= memory.len() as u64 {
+pub fn fetch(memory: &Memory, address: u64) -> Result<Parts, Stop> {
+    let bytes = memory.part(address);
+    let Some(first) = bytes.first() else {
         return Err(Stop::missing(Reason::FirstMissing));
-    }
-    let bytes = &memory[address as usize..];
-    let (code, function) = (bytes[0] >> 4, bytes[0] & 15);
+    };
+    let (code, function) = (first >> 4, first & 15);
     let row = row_of(code);
     if function >= row.functions {
         return Err(Stop::unknown(no_function(row)));
@@ -76,15 +77,16 @@ fn constant(bytes: &[u8], length: u8) -> u64 {
     word::load(bytes, u64::from(length) - 8).unwrap_or(0)
 }
 
-/// An instruction's bytes: its table length from its address, cut at N.
-/// Whatever fetch looked at, the first byte alone says the length.
-pub fn own_bytes(memory: &[u8], address: u64) -> std::ops::Range<u64> {
-    let size = memory.len() as u64;
-    if address >= size {
+/// An instruction's bytes: its table length from its address, cut at the end of
+/// its part of memory. Whatever fetch looked at, the first byte alone says the
+/// length.
+pub fn own_bytes(memory: &Memory, address: u64) -> std::ops::Range<u64> {
+    let bytes = memory.part(address);
+    let Some(first) = bytes.first() else {
         return 0..0;
-    }
-    let length = u64::from(row_of(memory[address as usize] >> 4).length);
-    address..size.min(address + length)
+    };
+    let length = u64::from(row_of(first >> 4).length);
+    address..address + length.min(bytes.len() as u64)
 }
 
 /// The bytes of an instruction that its fetch looks at: none, where the first

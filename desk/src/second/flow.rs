@@ -3,10 +3,10 @@
 use super::arithmetic::{operate, Codes, ADD};
 use super::fault::Fault;
 use super::machine::{Registers, Status, NONE};
+use super::memory::{Extent, Memory};
 use super::pipeline::{Kinds, Pipeline, Settings};
 use super::stages::{fetch_stage, Accessing, Decoding, Executing, Instruction, Writing};
 use super::table::{CALL, CMOV, IADDQ, IRMOVQ, JXX, MRMOVQ, OPQ, POPQ, PUSHQ, RET, RMMOVQ};
-use super::word;
 
 /// The working copy of a pipelined record, for the length of a run. A stage
 /// without an instruction holds a bubble that looks like a nop; the registers
@@ -71,18 +71,17 @@ impl Flow {
 
     /// What the instruction that has stopped the machine says of its fetch; it
     /// still stands in W.
-    pub(super) fn fault(&self, memory: &[u8]) -> Fault {
-        let stopping = self.w.instruction;
-        let (reason, end) = (stopping.reason(), memory.len() as u64);
+    pub(super) fn fault(&self, memory: Extent) -> Fault {
+        let (reason, at) = (self.w.instruction.reason(), self.w.instruction.address());
         Fault {
             reason,
-            address: reason.address(stopping.address(), end),
+            address: reason.address(at, memory.code_end(at)),
         }
     }
 
     /// One clock of a running machine. Says whether an instruction retired.
     #[inline(always)]
-    pub(super) fn advance(&mut self, registers: &mut Registers, memory: &mut [u8]) -> bool {
+    pub(super) fn advance(&mut self, registers: &mut Registers, memory: &mut Memory) -> bool {
         self.cycles += 1;
         let fetch_address = self.fetch_address();
         let retired = self.retire(registers);
@@ -270,20 +269,20 @@ fn hand_over(late: bool, accessed: &Writing, executed: &mut Accessing) {
     }
 }
 
-/// The work of M. A load outside memory reads 0, a store outside writes
-/// nothing, and either makes the status ADR.
+/// The work of M. A load outside memory reads 0, a store outside its writable
+/// part writes nothing, and either makes the status ADR.
 #[inline(always)]
-fn access(memory: &mut [u8], stage: &Accessing) -> Writing {
+fn access(memory: &mut Memory, stage: &Accessing) -> Writing {
     let Accessing {
         instruction,
         result,
         a,
     } = *stage;
     let done = match instruction.code() {
-        RMMOVQ | PUSHQ => word::store(memory, result, a).map(|()| 0),
-        CALL => word::store(memory, result, instruction.next()).map(|()| 0),
-        MRMOVQ => word::load(memory, result),
-        POPQ | RET => word::load(memory, a),
+        RMMOVQ | PUSHQ => memory.store(result, a).map(|()| 0),
+        CALL => memory.store(result, instruction.next()).map(|()| 0),
+        MRMOVQ => memory.load(result),
+        POPQ | RET => memory.load(a),
         _ => Some(0),
     };
     Writing {

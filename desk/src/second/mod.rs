@@ -16,6 +16,7 @@ mod flow;
 pub mod letter;
 pub mod listing;
 pub mod machine;
+pub mod memory;
 pub mod part;
 pub mod peaks;
 pub mod pipeline;
@@ -29,5 +30,5 @@ pub mod writing;
 
 pub use fault::Reason;
 pub use machine::{Refusal, Registers, Status, REGISTER_COUNT, RSP};
-pub use replay::{replay, replay_set};
+pub use replay::{replay, replay_set, replay_split};
 pub use report::y86run;

@@ -6,6 +6,7 @@ use super::flow::Flow;
 use super::machine::{
     check_budget, check_log, check_memory, check_start, Refusal, Registers, Status, CYCLE_LIMIT,
 };
+use super::memory::Memory;
 use super::stages::{Accessing, Decoding, Executing, Instruction, Writing};
 
 /// The cycle counts kept by kind.
@@ -104,19 +105,20 @@ impl Pipeline {
     }
 
     /// One clock: a run of 1 without logs.
-    pub fn clock(&mut self, memory: &mut [u8]) -> Result<(), Refusal> {
+    pub fn clock<'a>(&mut self, memory: impl Into<Memory<'a>>) -> Result<(), Refusal> {
         self.run(memory, 1, None)
     }
 
     /// Runs to a stop or to the end of the cycle budget. Place k - 1 of the
     /// logs takes the k-th retirement of this call.
-    pub fn run(
+    pub fn run<'a>(
         &mut self,
-        memory: &mut [u8],
+        memory: impl Into<Memory<'a>>,
         budget: u64,
         logs: Option<Logs>,
     ) -> Result<(), Refusal> {
-        check_memory(memory.len() as u64)?;
+        let memory = memory.into();
+        check_memory(memory.extent().size)?;
         check_budget(self.cycles, budget, CYCLE_LIMIT)?;
         if let Some(logs) = &logs {
             check_log(logs.addresses, budget)?;
@@ -130,31 +132,39 @@ impl Pipeline {
         Ok(())
     }
 
-    /// The loop of a run, on a working copy of the record. What retires is
-    /// told with its address and cycle.
+    /// The loop of a run, on a working copy of the record.
     #[inline(always)]
-    fn run_loop(&mut self, memory: &mut [u8], budget: u64, mut retired: impl FnMut(u64, u64)) {
+    fn run_loop(&mut self, mut memory: Memory, budget: u64, mut retired: impl FnMut(u64, u64)) {
         let mut flow = Flow::of(self);
         let (mut registers, mut fault) = (self.registers, self.fault);
         let mut left = budget;
         let running = self.status == Status::Aok;
         while left > 0 && flow.status == Status::Aok {
-            if flow.advance(&mut registers, memory) {
+            if flow.advance(&mut registers, &mut memory) {
                 retired(flow.last, flow.cycles);
             }
             left -= 1;
         }
         if running && flow.status != Status::Aok {
-            fault = flow.fault(memory);
+            fault = flow.fault(memory.extent());
         }
         *self = flow.record(registers, fault);
     }
 
-    fn run_unlogged(&mut self, memory: &mut [u8], budget: u64) {
-        self.run_loop(memory, budget, |_, _| {});
+    fn run_unlogged(&mut self, memory: Memory, budget: u64) {
+        match memory.program.is_empty() {
+            true => self.run_one(memory.writable, budget),
+            false => self.run_loop(memory, budget, |_, _| {}),
+        }
     }
 
-    fn run_logged(&mut self, memory: &mut [u8], budget: u64, logs: Logs) {
+    /// One memory has a loop of its own, in which no seam is looked for.
+    #[inline(never)]
+    fn run_one(&mut self, memory: &mut [u8], budget: u64) {
+        self.run_loop(Memory::from(memory), budget, |_, _| {});
+    }
+
+    fn run_logged(&mut self, memory: Memory, budget: u64, logs: Logs) {
         let mut place = 0;
         self.run_loop(memory, budget, |address, cycle| {
             logs.addresses[place] = address;

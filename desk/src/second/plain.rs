@@ -7,8 +7,8 @@ use super::machine::{
     check_budget, check_log, check_memory, check_start, Refusal, Registers, Status, PLAIN_LIMIT,
     RSP,
 };
+use super::memory::Memory;
 use super::table::{row_of, CALL, CMOV, IADDQ, IRMOVQ, JXX, MRMOVQ, OPQ, POPQ, PUSHQ, RET, RMMOVQ};
-use super::word;
 
 /// The plain machine's record; its memory is lent at each call.
 #[derive(Clone, Copy, Debug, PartialEq, Eq)]
@@ -48,19 +48,20 @@ impl Plain {
     }
 
     /// One step: a run of 1 without a log.
-    pub fn step(&mut self, memory: &mut [u8]) -> Result<(), Refusal> {
+    pub fn step<'a>(&mut self, memory: impl Into<Memory<'a>>) -> Result<(), Refusal> {
         self.run(memory, 1, None)
     }
 
     /// Runs to a stop or to the end of the budget. The log takes the address
     /// of the k-th instruction of this call at place k - 1.
-    pub fn run(
+    pub fn run<'a>(
         &mut self,
-        memory: &mut [u8],
+        memory: impl Into<Memory<'a>>,
         budget: u64,
         mut log: Option<&mut [u64]>,
     ) -> Result<(), Refusal> {
-        check_memory(memory.len() as u64)?;
+        let mut memory = memory.into();
+        check_memory(memory.extent().size)?;
         check_budget(self.count, budget, PLAIN_LIMIT)?;
         if let Some(log) = &log {
             check_log(log, budget)?;
@@ -69,7 +70,7 @@ impl Plain {
             if self.status != Status::Aok {
                 break;
             }
-            self.perform(memory);
+            self.perform(&mut memory);
             if let Some(log) = &mut log {
                 log[place] = self.last;
             }
@@ -79,17 +80,18 @@ impl Plain {
 
     /// Performs one instruction on a running machine. A stopping one changes
     /// no register, byte or code, and leaves the program address.
-    pub fn perform(&mut self, memory: &mut [u8]) {
+    pub fn perform(&mut self, memory: &mut Memory) {
         let outcome = fetch(memory, self.address).and_then(|parts| self.carry_out(memory, &parts));
         self.count += 1;
         self.last = self.address;
         match outcome {
             Ok(next) => self.address = next,
             Err(stop) => {
+                let end = memory.extent().code_end(self.address);
                 self.status = stop.status;
                 self.fault = Fault {
                     reason: stop.reason,
-                    address: stop.reason.address(self.address, memory.len() as u64),
+                    address: stop.reason.address(self.address, end),
                 };
             }
         }
@@ -98,7 +100,7 @@ impl Plain {
     /// Carries out an instruction fetched with AOK and gives the next program
     /// address. Each arm makes its access first, so that a failing one leaves
     /// everything as it was.
-    fn carry_out(&mut self, memory: &mut [u8], parts: &Parts) -> Result<u64, Stop> {
+    fn carry_out(&mut self, memory: &mut Memory, parts: &Parts) -> Result<u64, Stop> {
         let (ra, rb, constant) = (parts.ra, parts.rb, parts.constant);
         let (a, b) = (self.registers.get(ra), self.registers.get(rb));
         let next = self
@@ -137,7 +139,7 @@ impl Plain {
     }
 
     /// Stores a word below the top of the stack, then lowers rsp.
-    fn push(&mut self, memory: &mut [u8], value: u64) -> Result<(), Stop> {
+    fn push(&mut self, memory: &mut Memory, value: u64) -> Result<(), Stop> {
         let below = self.registers.get(RSP).wrapping_sub(8);
         store(memory, below, value)?;
         self.registers.set(RSP, below);
@@ -145,7 +147,7 @@ impl Plain {
     }
 
     /// Loads the word at the top of the stack, then raises rsp.
-    fn pop(&mut self, memory: &[u8]) -> Result<u64, Stop> {
+    fn pop(&mut self, memory: &Memory) -> Result<u64, Stop> {
         let top = self.registers.get(RSP);
         let loaded = load(memory, top)?;
         self.registers.set(RSP, top.wrapping_add(8));
@@ -153,10 +155,10 @@ impl Plain {
     }
 }
 
-fn load(memory: &[u8], address: u64) -> Result<u64, Stop> {
-    word::load(memory, address).ok_or(Stop::ACCESS)
+fn load(memory: &Memory, address: u64) -> Result<u64, Stop> {
+    memory.load(address).ok_or(Stop::ACCESS)
 }
 
-fn store(memory: &mut [u8], address: u64, value: u64) -> Result<(), Stop> {
-    word::store(memory, address, value).ok_or(Stop::ACCESS)
+fn store(memory: &mut Memory, address: u64, value: u64) -> Result<(), Stop> {
+    memory.store(address, value).ok_or(Stop::ACCESS)
 }

@@ -3,6 +3,7 @@
 use super::arithmetic::Codes;
 use super::machine::{check_budget, check_memory, CYCLE_LIMIT};
 use super::machine::{Refusal, Registers, REGISTER_COUNT};
+use super::memory::Memory;
 use super::pipeline::{Pipeline, Settings};
 
 /// Bytes in the register block: fifteen words.
@@ -72,7 +73,7 @@ pub fn replay_to_record(
         budget,
         chosen: Chosen::default(),
     };
-    let machine = asked.run(memory, registers, (result.len(), RESULT_BYTES))?;
+    let machine = asked.run(memory.into(), registers, (result.len(), RESULT_BYTES))?;
     write_words(result, &full_words(&machine));
     Ok(machine)
 }
@@ -95,13 +96,29 @@ pub fn replay_set(
         budget,
         chosen,
     };
-    match asked.run(memory, registers, (result.len(), FULL_BYTES)) {
-        Ok(machine) => {
-            write_words(result, &full_words(&machine));
-            0
-        }
-        Err(refusal) => refusal.number(),
-    }
+    asked.answer(memory.into(), registers, result)
+}
+
+/// The same over two memories (#110): program bytes, and writable bytes behind
+/// them, which take what the run leaves.
+#[allow(clippy::too_many_arguments)]
+pub fn replay_split(
+    program: &[u8],
+    writable: &mut [u8],
+    registers: &mut [u8],
+    result: &mut [u8],
+    start: u64,
+    codes: u64,
+    budget: u64,
+    chosen: Chosen,
+) -> u64 {
+    let asked = Asked {
+        start,
+        codes,
+        budget,
+        chosen,
+    };
+    asked.answer(Memory { program, writable }, registers, result)
 }
 
 /// The numbers that a replay is given.
@@ -113,15 +130,26 @@ struct Asked {
 }
 
 impl Asked {
+    /// Runs and leaves the full block; answers 0 or the number of the refusal.
+    fn answer(&self, memory: Memory, registers: &mut [u8], result: &mut [u8]) -> u64 {
+        match self.run(memory, registers, (result.len(), FULL_BYTES)) {
+            Ok(machine) => {
+                write_words(result, &full_words(&machine));
+                0
+            }
+            Err(refusal) => refusal.number(),
+        }
+    }
+
     /// Refuses, or runs and leaves the final registers; the lengths are those
     /// of the result block, as it is and as it has to be.
     fn run(
         &self,
-        memory: &mut [u8],
+        memory: Memory,
         registers: &mut [u8],
         (length, wanted): (usize, usize),
     ) -> Result<Pipeline, Refusal> {
-        let size = memory.len() as u64;
+        let size = memory.extent().size;
         check_memory(size)?;
         check_length(registers.len(), REGISTER_BYTES, Refusal::Registers)?;
         check_budget(0, self.budget, CYCLE_LIMIT)?;

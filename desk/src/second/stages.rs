@@ -3,6 +3,7 @@
 use super::fault::Reason;
 use super::fetch::fetch;
 use super::machine::{Status, NONE};
+use super::memory::Memory;
 use super::table::{roles, row_of, CALL, CMOV, IADDQ, JXX, NOP, OPQ, PUSHQ, RMMOVQ};
 use std::fmt;
 
@@ -347,7 +348,7 @@ impl Writing {
 /// with a bad status travels as a nop with that status, and predicts its own
 /// address.
 #[inline(always)]
-pub(super) fn fetch_stage(memory: &[u8], address: u64, rule: u8) -> (Decoding, u64) {
+pub(super) fn fetch_stage(memory: &Memory, address: u64, rule: u8) -> (Decoding, u64) {
     match fetch(memory, address) {
         Ok(parts) => {
             let (code, constant) = (parts.code, parts.constant);

@@ -3,6 +3,7 @@
 #![allow(dead_code)]
 
 pub mod reasons;
+pub mod seams;
 pub mod settings;
 pub mod tally;
 

@@ -204,7 +204,7 @@ fn count_moved_rsp(
 
 fn reasons(record: &Pipeline, call: &Call<Pipeline>) -> Vec<Refusal> {
     let logs: Vec<&[u64]> = call.logs.iter().map(Vec::as_slice).collect();
-    record.reasons(&call.memory, call.budget, &logs)
+    record.reasons(call.extent().size, call.budget, &logs)
 }
 
 /// The jumps in E and M of a record that is clocked.

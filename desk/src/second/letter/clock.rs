@@ -5,17 +5,18 @@ use super::work::{codes_after, holds, result, Access};
 use super::{fault_of, fetch, Instruction};
 use crate::second::arithmetic::Codes;
 use crate::second::machine::{Status, NONE};
+use crate::second::memory::{Extent, Memory};
 use crate::second::table::{CALL, JXX};
 
 impl Pipeline {
     /// One clock; on a stopped machine it changes nothing.
-    pub(super) fn advance(&mut self, memory: &mut [u8]) {
+    pub(super) fn advance(&mut self, memory: &mut Memory) {
         if self.status != Status::Aok {
             return;
         }
         let before = *self;
         self.cycles += 1;
-        self.retire(memory);
+        self.retire(memory.extent());
         if self.status != Status::Aok {
             return;
         }
@@ -34,11 +35,11 @@ impl Pipeline {
         self.e = before.d.map(|d| before.decoded(d, &self.m, &self.w));
         self.d = Some(fetched);
         self.predicted = predicted(&fetched, self.settings.rule);
-        self.control(&before, memory.len());
+        self.control(&before, memory.extent());
     }
 
     /// The controls at the end of a clock, over what it does without them.
-    fn control(&mut self, before: &Pipeline, size: usize) {
+    fn control(&mut self, before: &Pipeline, memory: Extent) {
         if before.load_use() {
             self.e = None;
         }
@@ -51,14 +52,14 @@ impl Pipeline {
         if before.load_use() {
             (self.predicted, self.d) = (before.predicted, before.d);
         }
-        if before.bad_in_m(size) {
+        if before.bad_in_m(memory) {
             (self.m, self.codes) = (None, before.codes);
         }
     }
 
     /// Retires what stands in W, if anything. With a bad status only counts,
     /// status, last address and what is said of its fetch change.
-    fn retire(&mut self, memory: &[u8]) {
+    fn retire(&mut self, memory: Extent) {
         let Some(w) = self.w else { return };
         self.retired += 1;
         self.last = w.instruction.address;
@@ -171,8 +172,8 @@ impl Pipeline {
     }
 
     /// A bad status in M, after its access.
-    pub fn bad_in_m(&self, size: usize) -> bool {
-        self.m.is_some_and(|m| m.status(size) != Status::Aok)
+    pub fn bad_in_m(&self, memory: Extent) -> bool {
+        self.m.is_some_and(|m| m.status(memory) != Status::Aok)
     }
 }
 
@@ -199,21 +200,21 @@ impl Executed {
     }
 
     /// The status after the access: outside it is ADR, whatever it was.
-    fn status(&self, size: usize) -> Status {
-        match self.access().is_outside(size) {
+    fn status(&self, memory: Extent) -> Status {
+        match self.access().is_outside(memory) {
             true => Status::Adr,
             false => self.instruction.status,
         }
     }
 
     /// What it is after its access.
-    fn accessed(&self, memory: &[u8]) -> Accessed {
+    fn accessed(&self, memory: &Memory) -> Accessed {
         Accessed {
             instruction: self.instruction,
             result: self.result,
             holds: self.holds,
             word: self.access().loaded(memory),
-            status: self.status(memory.len()),
+            status: self.status(memory.extent()),
         }
     }
 }

@@ -1,9 +1,11 @@
 //! Fetching, check after check.
 
-use super::refusals::{lowest, of_memory};
+use super::memory::{byte, place};
+use super::refusals::{lowest, of_size};
 use super::Instruction;
 use crate::second::fault::{Fault, Reason};
 use crate::second::machine::{Refusal, Status, NONE};
+use crate::second::memory::{Extent, Memory};
 use crate::second::table::NOP;
 
 /// Length, number of functions, whether rA and whether rB is named, by code.
@@ -32,8 +34,9 @@ pub type Fetched = (Result<(), Refusal>, Instruction, u64);
 
 /// Fetching as an operation of its own. Refused, it gives what a fetch outside
 /// memory gives.
-pub fn fetch_open(memory: &[u8], address: u64) -> Fetched {
-    let reasons: Vec<Refusal> = of_memory(memory).into_iter().collect();
+pub fn fetch_open<'a>(memory: impl Into<Memory<'a>>, address: u64) -> Fetched {
+    let memory = &memory.into();
+    let reasons: Vec<Refusal> = of_size(memory.extent().size).into_iter().collect();
     let refused = lowest(&reasons);
     let parsed = match refused {
         Ok(()) => parse(memory, address),
@@ -46,17 +49,19 @@ pub fn fetch_open(memory: &[u8], address: u64) -> Fetched {
 }
 
 /// The instruction at an address.
-pub(super) fn fetch(memory: &[u8], address: u64) -> Instruction {
+pub(super) fn fetch(memory: &Memory, address: u64) -> Instruction {
     parse(memory, address).unwrap_or_else(|bad| stopping(address, &bad))
 }
 
 /// What a stopping instruction says of its fetch, when it has stopped the
-/// machine. Its own reason counts, and a hand-made one may have any.
-pub(super) fn fault_of(instruction: &Instruction, memory: &[u8]) -> Fault {
+/// machine. Its own reason counts, and a hand-made one may have any. The lowest
+/// address that it misses is the seam for one before it, else N.
+pub(super) fn fault_of(instruction: &Instruction, memory: Extent) -> Fault {
     let address = match instruction.reason {
         Reason::None => 0,
         Reason::FirstMissing | Reason::Code | Reason::Function => instruction.address,
-        Reason::LaterMissing => memory.len() as u64,
+        Reason::LaterMissing if instruction.address < memory.seam => memory.seam,
+        Reason::LaterMissing => memory.size,
         Reason::Register => instruction.address.wrapping_add(1),
     };
     Fault {
@@ -107,7 +112,7 @@ fn stopping(address: u64, bad: &Bad) -> Instruction {
     }
 }
 
-fn parse(memory: &[u8], address: u64) -> Result<Instruction, Bad> {
+fn parse(memory: &Memory, address: u64) -> Result<Instruction, Bad> {
     let first = byte(memory, address).ok_or(Bad::missing(Reason::FirstMissing, address))?;
     let (code, function) = (first >> 4, first & 15);
     let (length, functions, names_a, names_b) = TABLE[usize::from(code)];
@@ -155,13 +160,15 @@ fn constant(later: &[u8]) -> u64 {
         .fold(0, |sum, byte| sum << 8 | u64::from(*byte))
 }
 
-fn byte(memory: &[u8], address: u64) -> Option<u8> {
-    memory.get(usize::try_from(address).ok()?).copied()
-}
-
-/// The bytes after the first, or the lowest address of those missing.
-fn later_bytes(memory: &[u8], address: u64, length: u64) -> Result<Vec<u8>, Bad> {
+/// The bytes after the first, or the lowest address of those missing. One in
+/// another part than the first is missing too: no instruction crosses the seam.
+fn later_bytes(memory: &Memory, address: u64, length: u64) -> Result<Vec<u8>, Bad> {
+    let place_of = |at: u64| place(memory.extent(), u128::from(at));
+    let beside = |at: &u64| place_of(*at) == place_of(address);
     (address + 1..address + length)
-        .map(|at| byte(memory, at).ok_or(Bad::missing(Reason::LaterMissing, at)))
+        .map(|at| {
+            let found = Some(at).filter(beside).and_then(|at| byte(memory, at));
+            found.ok_or(Bad::missing(Reason::LaterMissing, at))
+        })
         .collect()
 }

@@ -12,6 +12,7 @@
 mod clock;
 mod fetch;
 mod instruction;
+mod memory;
 mod pipeline;
 mod plain;
 mod refusals;

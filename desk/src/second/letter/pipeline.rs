@@ -1,10 +1,11 @@
 //! The pipelined engine by the letter: its record and its runs.
 
-use super::refusals::{lowest, of_budget, of_logs, of_memory, of_size, of_start};
+use super::refusals::{lowest, of_budget, of_logs, of_size, of_start};
 use super::Instruction;
 use crate::second::arithmetic::Codes;
 use crate::second::fault::Fault;
 use crate::second::machine::{Refusal, Registers, Status, CYCLE_LIMIT};
+use crate::second::memory::Memory;
 use crate::second::pipeline::{Kinds, Logs, Settings};
 
 /// What E holds: an instruction with the values of its sources.
@@ -111,9 +112,9 @@ impl Pipeline {
     }
 
     /// Every refusal that applies to a run; logs is empty for one without.
-    pub fn reasons(&self, memory: &[u8], budget: u64, logs: &[&[u64]]) -> Vec<Refusal> {
+    pub fn reasons(&self, size: u64, budget: u64, logs: &[&[u64]]) -> Vec<Refusal> {
         let all = [
-            of_memory(memory),
+            of_size(size),
             of_budget(self.cycles, budget, CYCLE_LIMIT),
             of_logs(logs, budget),
             self.refusal_of_record(),
@@ -137,26 +138,38 @@ impl Pipeline {
     }
 
     /// A clock is a run of 1 without logs.
-    pub fn clock(&mut self, memory: &mut [u8]) -> Result<(), Refusal> {
+    pub fn clock<'a>(&mut self, memory: impl Into<Memory<'a>>) -> Result<(), Refusal> {
         self.run_unlogged(memory, 1)
     }
 
     /// A run without logs.
-    pub fn run_unlogged(&mut self, memory: &mut [u8], budget: u64) -> Result<(), Refusal> {
-        lowest(&self.reasons(memory, budget, &[]))?;
+    pub fn run_unlogged<'a>(
+        &mut self,
+        memory: impl Into<Memory<'a>>,
+        budget: u64,
+    ) -> Result<(), Refusal> {
+        let mut memory = memory.into();
+        lowest(&self.reasons(memory.extent().size, budget, &[]))?;
         for _ in 0..budget {
-            self.advance(memory);
+            self.advance(&mut memory);
         }
         Ok(())
     }
 
     /// A run with both logs: place k - 1 takes the k-th retirement.
-    pub fn run(&mut self, memory: &mut [u8], budget: u64, logs: Logs) -> Result<(), Refusal> {
-        lowest(&self.reasons(memory, budget, &[logs.addresses, logs.cycles]))?;
+    pub fn run<'a>(
+        &mut self,
+        memory: impl Into<Memory<'a>>,
+        budget: u64,
+        logs: Logs,
+    ) -> Result<(), Refusal> {
+        let mut memory = memory.into();
+        let size = memory.extent().size;
+        lowest(&self.reasons(size, budget, &[logs.addresses, logs.cycles]))?;
         let mut place = 0;
         for _ in 0..budget {
             let before = self.retired;
-            self.advance(memory);
+            self.advance(&mut memory);
             if self.retired > before {
                 logs.addresses[place] = self.last;
                 logs.cycles[place] = self.cycles;

@@ -1,11 +1,12 @@
 //! The plain engine by the letter.
 
-use super::refusals::{lowest, of_budget, of_logs, of_memory, of_size, of_start};
+use super::refusals::{lowest, of_budget, of_logs, of_size, of_start};
 use super::work::{codes_after, holds, result, Access};
 use super::{fault_of, fetch, Instruction};
 use crate::second::arithmetic::Codes;
 use crate::second::fault::Fault;
 use crate::second::machine::{Refusal, Registers, Status, PLAIN_LIMIT};
+use crate::second::memory::Memory;
 use crate::second::table::{CALL, JXX, RET};
 
 /// The machine record; its memory is lent at each call.
@@ -47,9 +48,9 @@ impl Machine {
     }
 
     /// Every refusal that applies to a run; logs is empty for one without.
-    pub fn reasons(&self, memory: &[u8], budget: u64, logs: &[&[u64]]) -> Vec<Refusal> {
+    pub fn reasons(&self, size: u64, budget: u64, logs: &[&[u64]]) -> Vec<Refusal> {
         let all = [
-            of_memory(memory),
+            of_size(size),
             of_budget(self.count, budget, PLAIN_LIMIT),
             of_logs(logs, budget),
         ];
@@ -57,18 +58,25 @@ impl Machine {
     }
 
     /// A step is a run of 1 without a log.
-    pub fn step(&mut self, memory: &mut [u8]) -> Result<(), Refusal> {
-        lowest(&self.reasons(memory, 1, &[]))?;
-        self.perform(memory);
+    pub fn step<'a>(&mut self, memory: impl Into<Memory<'a>>) -> Result<(), Refusal> {
+        let mut memory = memory.into();
+        lowest(&self.reasons(memory.extent().size, 1, &[]))?;
+        self.perform(&mut memory);
         Ok(())
     }
 
     /// A run with a log.
-    pub fn run(&mut self, memory: &mut [u8], budget: u64, log: &mut [u64]) -> Result<(), Refusal> {
-        lowest(&self.reasons(memory, budget, &[log]))?;
+    pub fn run<'a>(
+        &mut self,
+        memory: impl Into<Memory<'a>>,
+        budget: u64,
+        log: &mut [u64],
+    ) -> Result<(), Refusal> {
+        let mut memory = memory.into();
+        lowest(&self.reasons(memory.extent().size, budget, &[log]))?;
         // A stop comes last, so that the k-th performed is that of turn k - 1.
         for place in log.iter_mut().take(budget as usize) {
-            if let Some(address) = self.perform(memory) {
+            if let Some(address) = self.perform(&mut memory) {
                 *place = address;
             }
         }
@@ -77,7 +85,7 @@ impl Machine {
 
     /// Performs one instruction and gives its address; none on a stopped
     /// machine, which does not change.
-    fn perform(&mut self, memory: &mut [u8]) -> Option<u64> {
+    fn perform(&mut self, memory: &mut Memory) -> Option<u64> {
         if self.status != Status::Aok {
             return None;
         }
@@ -87,21 +95,21 @@ impl Machine {
         self.status = instruction.status;
         match self.status {
             Status::Aok => self.carry_out(&instruction, memory),
-            _ => self.fault = fault_of(&instruction, memory),
+            _ => self.fault = fault_of(&instruction, memory.extent()),
         }
         Some(self.last)
     }
 
     /// Decode, execute, memory, write back, program address. An access outside
     /// stops the machine before anything has changed.
-    fn carry_out(&mut self, instruction: &Instruction, memory: &mut [u8]) {
+    fn carry_out(&mut self, instruction: &Instruction, memory: &mut Memory) {
         let [a, b] = instruction
             .sources()
             .map(|source| self.registers.get(source));
         let result = result(instruction, a, b);
         let holds = holds(instruction, self.codes);
         let access = Access::of(instruction, a, result);
-        if access.is_outside(memory.len()) {
+        if access.is_outside(memory.extent()) {
             self.status = Status::Adr;
             self.fault = Fault::default();
             return;

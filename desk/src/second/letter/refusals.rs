@@ -2,12 +2,7 @@
 
 use crate::second::machine::{Refusal, MEMORY_LIMIT};
 
-/// Refusal 1, of the lent memory.
-pub fn of_memory(memory: &[u8]) -> Option<Refusal> {
-    of_size(memory.len() as u64)
-}
-
-/// Refusal 1, of a memory's size.
+/// Refusal 1, of a memory's size, which is the sum of its parts (#110).
 pub fn of_size(size: u64) -> Option<Refusal> {
     (size == 0 || size > MEMORY_LIMIT as u64).then_some(Refusal::Memory)
 }

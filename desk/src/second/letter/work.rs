@@ -1,8 +1,10 @@
 //! What an instruction computes, decides and accesses, as the public stage
 //! tables have it. Both engines do this work, each in its own time.
 
+use super::memory::{byte, place_of_word, write, Place};
 use super::Instruction;
 use crate::second::arithmetic::Codes;
+use crate::second::memory::{Extent, Memory};
 use crate::second::table::{CALL, CMOV, IADDQ, IRMOVQ, JXX, MRMOVQ, OPQ, POPQ, PUSHQ, RET, RMMOVQ};
 
 /// The condition of a move or a jump under the codes; true for all others.
@@ -80,35 +82,36 @@ impl Access {
         }
     }
 
-    /// Whether it is outside: inside is a word whose address plus 7, without
-    /// wrapping, is below N.
-    pub fn is_outside(&self, size: usize) -> bool {
+    /// Whether it is outside: inside is a word with all its bytes in one part,
+    /// and for a store in the writable one.
+    pub fn is_outside(&self, memory: Extent) -> bool {
         match self {
             Access::None => false,
-            Access::Load { address } | Access::Store { address, .. } => {
-                u128::from(*address) + 7 >= size as u128
-            }
+            Access::Load { address } => place_of_word(memory, *address) == Place::Nowhere,
+            Access::Store { address, .. } => place_of_word(memory, *address) != Place::Writable,
         }
     }
 
     /// The word loaded: 0 outside, and where nothing is loaded.
-    pub fn loaded(&self, memory: &[u8]) -> u64 {
+    pub fn loaded(&self, memory: &Memory) -> u64 {
         match self {
-            Access::Load { address } if !self.is_outside(memory.len()) => {
-                let bytes = &memory[*address as usize..][..8];
+            Access::Load { address } if !self.is_outside(memory.extent()) => {
+                let bytes = (0..8).filter_map(|behind| byte(memory, address + behind));
                 bytes
-                    .iter()
                     .rev()
-                    .fold(0, |word, byte| word << 8 | u64::from(*byte))
+                    .fold(0, |word, byte| word << 8 | u64::from(byte))
             }
             _ => 0,
         }
     }
 
     /// Stores the word, if it has one: outside nothing is written.
-    pub fn store(&self, memory: &mut [u8]) {
-        if let (Access::Store { address, word }, false) = (self, self.is_outside(memory.len())) {
-            memory[*address as usize..][..8].copy_from_slice(&word.to_le_bytes());
+    pub fn store(&self, memory: &mut Memory) {
+        let outside = self.is_outside(memory.extent());
+        if let (Access::Store { address, word }, false) = (self, outside) {
+            for (at, byte) in (*address..).zip(word.to_le_bytes()) {
+                write(memory, at, byte);
+            }
         }
     }
 }
