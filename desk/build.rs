@@ -8,7 +8,11 @@ use std::path::Path;
 const ARCHIVE: &str = "../target/staticlib/libedge.a";
 
 /// Functions that not every archive has, and what is set where one has it.
-const FUNCTIONS: [(&str, &str); 1] = [("y86_replay_set", "edge_set")];
+const FUNCTIONS: [(&str, &str, &str); 3] = [
+    ("libedge.a", "y86_replay_set", "edge_set"),
+    ("libedge.a", "y86_replay_split", "edge_split"),
+    ("libtrial.a", "trial_split_fetch", "trial_split"),
+];
 
 fn main() {
     let package = std::env::var_os("CARGO_MANIFEST_DIR").expect("cargo names the package");
@@ -27,10 +31,9 @@ fn main() {
     if folder.join("libtrial.a").is_file() {
         println!("cargo::rustc-cfg=trial_archive");
     }
-    let bytes = std::fs::read(&archive).expect("an archive that can be read");
-    for (function, set) in FUNCTIONS {
+    for (archive, function, set) in FUNCTIONS {
         println!("cargo::rustc-check-cfg=cfg({set})");
-        if has_function(&bytes, function) {
+        if has_function(&folder.join(archive), function) {
             println!("cargo::rustc-cfg={set}");
         }
     }
@@ -39,7 +42,8 @@ fn main() {
 }
 
 /// Whether an archive names a function, between two bytes that are 0.
-fn has_function(archive: &[u8], name: &str) -> bool {
+fn has_function(archive: &Path, name: &str) -> bool {
+    let bytes = std::fs::read(archive).unwrap_or_default();
     let named = [b"\0", name.as_bytes(), b"\0"].concat();
-    archive.windows(named.len()).any(|part| part == named)
+    bytes.windows(named.len()).any(|part| part == named)
 }

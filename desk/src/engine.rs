@@ -38,6 +38,26 @@ extern "C" {
         end: u64,
     ) -> u64;
 
+    #[cfg(edge_split)]
+    fn y86_replay_split(
+        program: *const u8,
+        program_length: usize,
+        writable: *mut u8,
+        writable_length: usize,
+        registers: *mut u8,
+        registers_length: usize,
+        result: *mut u8,
+        result_length: usize,
+        start: u64,
+        codes: u64,
+        budget: u64,
+        rule: u64,
+        late: u64,
+        windowed: u64,
+        first: u64,
+        end: u64,
+    ) -> u64;
+
     fn y86_read_listing(
         text: *const u8,
         text_length: usize,
@@ -150,6 +170,49 @@ pub const REPLAY_SET: Option<ReplaySet> = Some(replay_set);
 #[cfg(not(edge_set))]
 pub const REPLAY_SET: Option<ReplaySet> = None;
 
+/// The same over two memories (#110): program bytes, and writable bytes behind
+/// them.
+#[cfg(edge_split)]
+#[allow(clippy::too_many_arguments)]
+pub fn replay_split(
+    program: &[u8],
+    writable: &mut [u8],
+    registers: &mut [u8],
+    result: &mut [u8],
+    start: u64,
+    codes: u64,
+    budget: u64,
+    chosen: Chosen,
+) -> u64 {
+    // SAFETY: as above; the program's bytes are only read.
+    unsafe {
+        y86_replay_split(
+            program.as_ptr(),
+            program.len(),
+            writable.as_mut_ptr(),
+            writable.len(),
+            registers.as_mut_ptr(),
+            registers.len(),
+            result.as_mut_ptr(),
+            result.len(),
+            start,
+            codes,
+            budget,
+            chosen.rule,
+            chosen.late,
+            chosen.windowed,
+            chosen.first,
+            chosen.end,
+        )
+    }
+}
+
+/// The product's replay over two memories, where the archive has it.
+#[cfg(edge_split)]
+pub const REPLAY_SPLIT: Option<ReplaySplit> = Some(replay_split);
+#[cfg(not(edge_split))]
+pub const REPLAY_SPLIT: Option<ReplaySplit> = None;
+
 /// Memory becomes the image of a listing, and the answer is 0; or a refusal by
 /// its number, where 9 is a faulty line, whose number and kind are left in the
 /// block of 16 bytes. Any lengths may be given.
@@ -256,6 +319,10 @@ pub type Replay = fn(&mut [u8], &mut [u8], &mut [u8], u64, u64, u64) -> u64;
 /// A replay with settings through the edge, or one that takes and leaves the
 /// same.
 pub type ReplaySet = fn(&mut [u8], &mut [u8], &mut [u8], u64, u64, u64, Chosen) -> u64;
+
+/// A replay over two memories through the edge, or one that takes and leaves
+/// the same.
+pub type ReplaySplit = fn(&[u8], &mut [u8], &mut [u8], &mut [u8], u64, u64, u64, Chosen) -> u64;
 
 /// What a replay answers: the five result words, or the number of the refusal.
 pub type Answer = Result<Outcome, u64>;

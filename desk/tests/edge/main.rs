@@ -6,6 +6,7 @@ mod common;
 mod counts;
 mod figures;
 mod set;
+mod split;
 
 use counts::Counts;
 use desk::engine;
@@ -217,6 +218,7 @@ fn refusals_agree_in_every_combination() {
                 start: pick(6, [0, size.wrapping_sub(1)], [size, u64::MAX])[turn],
                 codes: pick(5, [0, 7], [8, u64::MAX])[turn],
                 budget: pick(3, [1, 262_145], [0, 262_146])[turn],
+                code_end: 0,
             };
             let lowest = (1..=6).find(|number| way(*number)).unwrap_or(0);
             let left = Left::by_product(&case, case.budget);

@@ -1,8 +1,8 @@
 //! What turned up among the calls that were compared.
 
 use crate::common::reasons::{reason_name, REASONS};
-use crate::common::settings;
 use crate::common::tally::{Classes, Tally};
+use crate::common::{seams, settings};
 use crate::entries::Engine;
 use desk::generate::{Call, Origin};
 use desk::second::letter::{Executed, Instruction, Machine, Pipeline};
@@ -303,6 +303,10 @@ impl Counted for Machine {
 
     fn count(compared: &Compared<Machine>, tally: &mut Tally, refused: &'static str) {
         compared.count(tally, refused);
+        if cfg!(trial_split) {
+            let (given, left) = (&compared.given.record, &compared.left.record);
+            seams::count_plain(tally, given, left, compared.given.extent());
+        }
     }
 }
 
@@ -325,6 +329,10 @@ impl Counted for Pipeline {
         compared.count(tally, refused);
         settings::count(tally, compared.given);
         compared.count_record(tally);
+        if cfg!(trial_split) {
+            let (given, left) = (&compared.given.record, &compared.left.record);
+            seams::count_pipelined(tally, given, left, compared.given.extent());
+        }
     }
 }
 
@@ -414,7 +422,7 @@ impl Compared<'_, Pipeline> {
         let record = &self.given.record;
         let bad = |held: Option<Instruction>| held.is_some_and(|held| held.status != Status::Aok);
         let [d, e, m, ..] = record.instructions();
-        let bad_in_m = record.bad_in_m(self.given.memory.len());
+        let bad_in_m = record.bad_in_m(self.given.extent());
         let bad_in_w = record.w.is_some_and(|w| w.status != Status::Aok);
         let places = [
             ("D", bad(d)),
@@ -442,7 +450,7 @@ impl Compared<'_, Pipeline> {
         let [d, e, m, ..] = record.instructions();
         let holds = |held: Option<Instruction>, code| held.is_some_and(|held| held.code == code);
         let (load_use, mispredicted) = (record.load_use(), record.mispredicted());
-        let bad_in_m = record.bad_in_m(self.given.memory.len());
+        let bad_in_m = record.bad_in_m(self.given.extent());
         let controls = [
             ("load-use", load_use),
             ("misprediction", mispredicted),

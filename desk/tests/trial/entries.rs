@@ -2,9 +2,12 @@
 //! and as the letter has it.
 
 use crate::blocks::{instruction, Block, INSTRUCTION};
+#[cfg(trial_split)]
+use crate::split;
 use desk::generate::{Call, Record, Way};
 use desk::second::letter::{Fetched, Instruction, Machine, Pipeline};
 use desk::second::machine::Refusal;
+use desk::second::memory::Memory;
 use desk::second::pipeline::Logs;
 
 // Nothing checks these declarations against the Rattle source: they are
@@ -72,8 +75,8 @@ pub const PLAIN_RUN: Entry<Machine> = Entry {
     way: Way::Logged,
     product: plain_run,
     letter: |call| {
-        let (memory, log) = (&mut call.memory, &mut call.logs[0]);
-        number(call.record.run(memory, call.budget, log))
+        let lent = Memory::split(&mut call.memory, call.seam);
+        number(call.record.run(lent, call.budget, &mut call.logs[0]))
     },
 };
 
@@ -82,7 +85,10 @@ pub const PLAIN_STEP: Entry<Machine> = Entry {
     refused: "plain::step refused for",
     way: Way::Single,
     product: plain_step,
-    letter: |call| number(call.record.step(&mut call.memory)),
+    letter: |call| {
+        let lent = Memory::split(&mut call.memory, call.seam);
+        number(call.record.step(lent))
+    },
 };
 
 pub const PIPE_RUN: Entry<Pipeline> = Entry {
@@ -93,7 +99,8 @@ pub const PIPE_RUN: Entry<Pipeline> = Entry {
     letter: |call| {
         let [addresses, cycles] = two(&mut call.logs);
         let logs = Logs { addresses, cycles };
-        number(call.record.run(&mut call.memory, call.budget, logs))
+        let lent = Memory::split(&mut call.memory, call.seam);
+        number(call.record.run(lent, call.budget, logs))
     },
 };
 
@@ -102,7 +109,10 @@ pub const PIPE_RUN_UNLOGGED: Entry<Pipeline> = Entry {
     refused: "pipe::run_unlogged refused for",
     way: Way::Unlogged,
     product: pipe_run_unlogged,
-    letter: |call| number(call.record.run_unlogged(&mut call.memory, call.budget)),
+    letter: |call| {
+        let lent = Memory::split(&mut call.memory, call.seam);
+        number(call.record.run_unlogged(lent, call.budget))
+    },
 };
 
 pub const PIPE_CLOCK: Entry<Pipeline> = Entry {
@@ -110,7 +120,10 @@ pub const PIPE_CLOCK: Entry<Pipeline> = Entry {
     refused: "pipe::clock refused for",
     way: Way::Single,
     product: pipe_clock,
-    letter: |call| number(call.record.clock(&mut call.memory)),
+    letter: |call| {
+        let lent = Memory::split(&mut call.memory, call.seam);
+        number(call.record.clock(lent))
+    },
 };
 
 /// A record of an engine that can be called.
@@ -137,7 +150,7 @@ pub trait Engine: Record + Block {
 impl Engine for Machine {
     fn reasons(&self, call: &Call<Machine>) -> Vec<Refusal> {
         let logs: Vec<&[u64]> = call.logs.iter().map(Vec::as_slice).collect();
-        Machine::reasons(self, &call.memory, call.budget, &logs)
+        Machine::reasons(self, call.extent().size, call.budget, &logs)
     }
 
     const START_REFUSED: &'static str = "plain::start refused for";
@@ -161,7 +174,7 @@ impl Engine for Machine {
 impl Engine for Pipeline {
     fn reasons(&self, call: &Call<Pipeline>) -> Vec<Refusal> {
         let logs: Vec<&[u64]> = call.logs.iter().map(Vec::as_slice).collect();
-        Pipeline::reasons(self, &call.memory, call.budget, &logs)
+        Pipeline::reasons(self, call.extent().size, call.budget, &logs)
     }
 
     const START_REFUSED: &'static str = "pipe::start refused for";
@@ -183,7 +196,7 @@ impl Engine for Pipeline {
 }
 
 /// The two logs of a pipelined call.
-fn two(logs: &mut [Vec<u64>]) -> &mut [Vec<u64>; 2] {
+pub fn two(logs: &mut [Vec<u64>]) -> &mut [Vec<u64>; 2] {
     logs.try_into().expect("two logs are lent")
 }
 
@@ -192,7 +205,7 @@ pub fn number(answer: Result<(), Refusal>) -> u64 {
 }
 
 /// Hands a record over as a block, and takes back what the block then holds.
-fn in_block<R: Block, A>(record: &mut R, call: impl FnOnce(&mut [u64]) -> A) -> A {
+pub fn in_block<R: Block, A>(record: &mut R, call: impl FnOnce(&mut [u64]) -> A) -> A {
     let mut block = record.words();
     let answer = call(&mut block);
     *record = R::from_words(&block);
@@ -203,7 +216,17 @@ fn in_block<R: Block, A>(record: &mut R, call: impl FnOnce(&mut [u64]) -> A) -> 
 // that is borrowed for the length of the call, and no two of them overlap. The
 // entries are proved to stay inside them, and ask nothing else of a caller.
 
+/// Whether the entry over two memories is called: where there are two, and for
+/// some of one memory, as the case of no program bytes.
+fn is_split(size: usize, seam: usize) -> bool {
+    cfg!(trial_split) && (seam > 0 || size % 2 == 1)
+}
+
 fn plain_step(call: &mut Call<Machine>) -> u64 {
+    if is_split(call.memory.len(), call.seam) {
+        #[cfg(trial_split)]
+        return split::plain_step(call);
+    }
     let memory = &mut call.memory;
     in_block(&mut call.record, |block| unsafe {
         trial_plain_step(
@@ -216,6 +239,10 @@ fn plain_step(call: &mut Call<Machine>) -> u64 {
 }
 
 fn plain_run(call: &mut Call<Machine>) -> u64 {
+    if is_split(call.memory.len(), call.seam) {
+        #[cfg(trial_split)]
+        return split::plain_run(call);
+    }
     let (memory, log) = (&mut call.memory, &mut call.logs[0]);
     in_block(&mut call.record, |block| unsafe {
         trial_plain_run(
@@ -231,6 +258,10 @@ fn plain_run(call: &mut Call<Machine>) -> u64 {
 }
 
 fn pipe_clock(call: &mut Call<Pipeline>) -> u64 {
+    if is_split(call.memory.len(), call.seam) {
+        #[cfg(trial_split)]
+        return split::pipe_clock(call);
+    }
     let memory = &mut call.memory;
     in_block(&mut call.record, |block| unsafe {
         trial_pipe_clock(
@@ -243,6 +274,10 @@ fn pipe_clock(call: &mut Call<Pipeline>) -> u64 {
 }
 
 fn pipe_run_unlogged(call: &mut Call<Pipeline>) -> u64 {
+    if is_split(call.memory.len(), call.seam) {
+        #[cfg(trial_split)]
+        return split::pipe_run_unlogged(call);
+    }
     let memory = &mut call.memory;
     in_block(&mut call.record, |block| unsafe {
         trial_pipe_run_unlogged(
@@ -256,6 +291,10 @@ fn pipe_run_unlogged(call: &mut Call<Pipeline>) -> u64 {
 }
 
 fn pipe_run(call: &mut Call<Pipeline>) -> u64 {
+    if is_split(call.memory.len(), call.seam) {
+        #[cfg(trial_split)]
+        return split::pipe_run(call);
+    }
     let memory = &mut call.memory;
     let [addresses, cycles] = two(&mut call.logs);
     in_block(&mut call.record, |block| unsafe {
@@ -281,9 +320,19 @@ pub fn numbered((answer, instruction, fault): Fetched) -> Answer {
     (number(answer), instruction, fault)
 }
 
+/// The answer with this number and block: the word behind the instruction has
+/// the address of the byte at fault.
+pub fn answered(number: u64, block: &[u64; INSTRUCTION + 1]) -> Answer {
+    let fetched = instruction(block).expect("an instruction");
+    (number, fetched, block[INSTRUCTION])
+}
+
 /// What the product answers to a fetch.
-pub fn fetch(memory: &mut [u8], address: u64) -> Answer {
-    // The word behind the instruction takes the address of the byte at fault.
+pub fn fetch(memory: &mut [u8], seam: usize, address: u64) -> Answer {
+    if is_split(memory.len(), seam) {
+        #[cfg(trial_split)]
+        return split::fetch(memory, seam, address);
+    }
     let mut block = [0; INSTRUCTION + 1];
     let answer = unsafe {
         trial_fetch(
@@ -294,6 +343,5 @@ pub fn fetch(memory: &mut [u8], address: u64) -> Answer {
             block.len(),
         )
     };
-    let fetched = instruction(&block).expect("an instruction");
-    (answer, fetched, block[INSTRUCTION])
+    answered(answer, &block)
 }

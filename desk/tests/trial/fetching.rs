@@ -1,12 +1,13 @@
 //! Fetching by the product and by the letter, on memory of any size and at any
 //! address.
 
+use crate::calls;
 use crate::common::reasons::{reason_name, REASONS};
 use crate::common::tally::{Classes, Tally};
 use crate::entries::{fetch, numbered};
-use desk::generate::Calls;
 use desk::second::letter;
 use desk::second::machine::{MEMORY_LIMIT, PROGRAM_LIMIT};
+use desk::second::memory::Memory;
 use desk::second::Status;
 
 /// Fillers of what was fetched, and those beside a named register of 15.
@@ -56,13 +57,13 @@ fn fetching_is_the_letters_equal() {
     } else {
         200_000
     };
-    let mut calls = Calls::new(0xfe7c);
+    let mut calls = calls(0xfe7c);
     let mut tally = Tally::default();
     for turn in 0..calls_made {
-        let (mut memory, address) = calls.fetch();
+        let (mut memory, seam, address) = calls.fetch();
         let given = memory.clone();
-        let product = fetch(&mut memory, address);
-        let letter = letter::fetch_open(&given, address);
+        let product = fetch(&mut memory, seam, address);
+        let letter = letter::fetch_open(Memory::split(&mut memory, seam), address);
         assert_eq!(product, numbered(letter), "call {turn}");
         assert!(memory == given, "call {turn}: fetching has written");
         let (answer, expected, _) = letter;

@@ -15,9 +15,11 @@ mod common;
 mod counts;
 mod entries;
 mod fetching;
+#[cfg(trial_split)]
+mod split;
 
-use common::settings;
 use common::tally::Tally;
+use common::{seams, settings};
 use counts::{reasons_name, Compared, Counted, CLASSES};
 use desk::generate::{Call, Calls, Way};
 use desk::second::Status;
@@ -46,7 +48,12 @@ fn every_entry_is_the_letters_equal() {
     });
     let spent = begin.elapsed().as_secs_f64();
     println!("compared {CALLS} calls in {spent:.1} s");
-    let classes = [CLASSES, settings::CLASSES].concat();
+    let seams = if cfg!(trial_split) {
+        seams::CALL_CLASSES
+    } else {
+        &[]
+    };
+    let classes = [CLASSES, settings::CLASSES, seams].concat();
     println!("{}", tally.table(&classes));
     tally.check(&classes, 1);
 }
@@ -54,7 +61,7 @@ fn every_entry_is_the_letters_equal() {
 /// Compares calls from a seed, each entry in its turn.
 fn compare_many(seed: u64, number: u64) -> Tally {
     let mut trial = Trial {
-        calls: Calls::new(seed),
+        calls: calls(seed),
         tally: Tally::default(),
         name: String::new(),
     };
@@ -69,6 +76,15 @@ fn compare_many(seed: u64, number: u64) -> Tally {
         }
     }
     trial.tally
+}
+
+/// Calls of which half have memory in two parts, where the product takes it so
+/// (#110).
+fn calls(seed: u64) -> Calls {
+    match cfg!(trial_split) {
+        true => Calls::splitting(seed),
+        false => Calls::new(seed),
+    }
 }
 
 /// Calls under comparison.
