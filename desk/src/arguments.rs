@@ -126,6 +126,7 @@ struct Options {
     codes: Option<OsString>,
     budget: Option<OsString>,
     registers: Option<OsString>,
+    program: Option<OsString>,
     size: Option<OsString>,
     listing: Option<()>,
     table: Option<OsString>,
@@ -175,6 +176,7 @@ impl Options {
             ("replay" | "junk", "--registers") => Ok(&mut self.registers),
             ("list", "--from") => Ok(&mut self.from),
             ("list", "--to") => Ok(&mut self.to),
+            ("replay", "--program") => Ok(&mut self.program),
             ("peaks", "--table") => Ok(&mut self.table),
             ("peaks", "--length") => Ok(&mut self.length),
             ("peaks", "--filed") => Ok(&mut self.filed),
@@ -247,6 +249,7 @@ impl Options {
                 start: number_or("--start", self.start, 0)?,
                 codes: number_or("--codes", self.codes, 4)?,
                 budget: number_or("--budget", self.budget, 4_000)?,
+                program: size_of("--program", self.program)?,
             },
             second: self.second.is_some(),
         })
@@ -285,6 +288,13 @@ fn wanted(name: &str, word: Option<OsString>) -> Result<u64, Fault> {
 
 fn number_or(name: &str, word: Option<OsString>, otherwise: u64) -> Result<u64, Fault> {
     word.map_or(Ok(otherwise), |word| number(name, &word))
+}
+
+/// A number of bytes, where one is given; larger than any image, where it is
+/// larger than this machine can count.
+fn size_of(name: &str, word: Option<OsString>) -> Result<Option<usize>, Fault> {
+    let size = word.map(|word| number(name, &word)).transpose()?;
+    Ok(size.map(|size| usize::try_from(size).unwrap_or(usize::MAX)))
 }
 
 /// A number of 64 bits, decimal or hex. Whether it is one that the edge takes

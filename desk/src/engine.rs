@@ -370,17 +370,11 @@ pub struct FullOutcome {
     pub fault_address: u64,
 }
 
-/// A replay with settings and a result block of its own. The final registers
-/// and memory are left in the lent bytes.
-pub fn full_outcome(
-    replay: ReplaySet,
-    memory: &mut [u8],
-    registers: &mut [u8],
-    (start, codes, budget): (u64, u64, u64),
-    chosen: Chosen,
-) -> Result<FullOutcome, u64> {
+/// What a replay tells in a full result block that it is lent here; a refusal by
+/// its number.
+pub fn full_outcome(replay: impl FnOnce(&mut [u8]) -> u64) -> Result<FullOutcome, u64> {
     let mut result = [0; FULL_BYTES];
-    match replay(memory, registers, &mut result, start, codes, budget, chosen) {
+    match replay(&mut result) {
         0 => Ok(FullOutcome::read(&result)),
         refusal => Err(refusal),
     }

@@ -34,12 +34,14 @@ pub struct Source {
 pub fn replay(asked: &Asked) -> Result<(String, u8), Fault> {
     let image = Source::image(&asked.image, asked.listing)?;
     let file = registers(asked.registers.as_deref())?;
+    check_program(&asked.given, &image)?;
     let (mut memory, mut registers) = (image.bytes.clone(), file.bytes.clone());
-    let answer = replaying::replay(asked.second, &mut memory, &mut registers, asked.given);
-    let told = answer.map_err(|number| refused(number, &asked.given, &image, &file))?;
+    let answer = replaying::replay(asked.second, &mut memory, &mut registers, &asked.given);
+    let words = |number| refusal(number, &asked.given, &image, &file);
+    let told = answer.map_err(|untold| untold.fault(words))?;
     let before = Before {
         memory: &image.bytes,
-        budget: asked.given.budget,
+        given: &asked.given,
     };
     let at_last = list::instruction(list::writer(asked.second), &memory, told.outcome.last);
     let text = report::text(&told, &at_last, &before, &memory, &registers);
@@ -58,6 +60,18 @@ pub fn registers(path: Option<&Path>) -> Result<Source, Fault> {
 pub fn refused(number: u64, given: &Given, image: &Source, registers: &Source) -> Fault {
     let why = refusal(number, given, image, registers);
     Fault::new(Fault::REFUSED, format!("refused ({number}): {why}"))
+}
+
+/// The program's bytes have to be bytes of the image.
+fn check_program(given: &Given, image: &Source) -> Result<(), Fault> {
+    let size = image.bytes.len();
+    match given.program {
+        Some(seam) if seam > size => {
+            let message = format!("--program {seam}: {}", image.says());
+            Err(Fault::new(Fault::USAGE, message))
+        }
+        _ => Ok(()),
+    }
 }
 
 /// What a refusal means, in words. Number 4 is not among them: the result

@@ -25,6 +25,7 @@ const AS_Y86RUN: Given = Given {
     start: 0,
     codes: 4,
     budget: 4_000,
+    program: None,
 };
 
 /// The result words: good samples, peak, place, failed, sum, the mean's bits
@@ -35,11 +36,11 @@ type Words = [u64; 7];
 pub fn day(asked: &Asked) -> Result<(String, u8), Fault> {
     let image = Source::image(&asked.image, asked.listing)?;
     let (mut memory, mut registers) = (image.bytes.clone(), [0; 120]);
-    let told = replaying::replay(asked.second, &mut memory, &mut registers, AS_Y86RUN)
+    let told = replaying::replay(asked.second, &mut memory, &mut registers, &AS_Y86RUN)
         .map_err(|_| refused(5, format!("{}; an image has 1 to 65,536", image.says())))?;
     let words =
         judged(asked, &memory).map_err(|number| refused(number, why(number, asked, &memory)))?;
-    let ended = report::ending(&told, AS_Y86RUN.budget, &memory);
+    let ended = report::ending(&told, &AS_Y86RUN, &memory);
     Ok((text(&words, asked, &memory, &ended), exit_status(&words)))
 }
 

@@ -50,6 +50,8 @@ options of replay; the first two and --registers are junk's too:
   --budget B         the most cycles to run, 1 to 262,145 (4000)
   --registers FILE   120 bytes: the words of rax rcx rdx rbx rsp rbp rsi rdi
                      and r8 to r14, 8 bytes each, least byte first (all 0)
+  --program N        the first N bytes are the program's: they are only read,
+                     and no instruction or word lies across their end (none)
   --second           a second opinion: by the second program, not the engine
 
 Numbers are decimal, or hex after 0x. An option that is not given has the value

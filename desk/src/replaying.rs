@@ -1,6 +1,7 @@
 //! One replay by the engine that is asked for, with all that it tells.
 
-use desk::engine::{self, Outcome, ReplaySet};
+use crate::Fault;
+use desk::engine::{self, FullOutcome, Outcome, ReplaySet, ReplaySplit};
 use desk::second;
 use desk::second::replay::Chosen;
 
@@ -10,6 +11,8 @@ pub struct Given {
     pub start: u64,
     pub codes: u64,
     pub budget: u64,
+    /// Bytes at the front that are the program's and only read, if any (#110).
+    pub program: Option<usize>,
 }
 
 /// What a replay tells.
@@ -20,34 +23,73 @@ pub struct Told {
     pub fault: Option<(u64, u64)>,
 }
 
+/// Why a replay tells nothing.
+pub enum Untold {
+    /// It is refused, by this number.
+    Refused(u64),
+    /// The engine that this program is built with cannot do it.
+    Missing(&'static str),
+}
+
+impl Untold {
+    /// The fault to report, with the words of a refusal.
+    pub fn fault(self, words: impl FnOnce(u64) -> String) -> Fault {
+        match self {
+            Untold::Refused(number) => {
+                let why = words(number);
+                Fault::new(Fault::REFUSED, format!("refused ({number}): {why}"))
+            }
+            Untold::Missing(function) => Fault::new(
+                Fault::USAGE,
+                format!("the engine was built without {function}; --second can do this"),
+            ),
+        }
+    }
+}
+
 /// A replay by the engine, or for a second opinion by the second program. The
-/// final registers and memory are left in the lent bytes; a refusal is given by
-/// its number.
+/// final registers and memory are left in the lent bytes.
 pub fn replay(
     second: bool,
     memory: &mut [u8],
     registers: &mut [u8],
-    given: Given,
-) -> Result<Told, u64> {
-    let Given {
-        start,
-        codes,
-        budget,
-    } = given;
+    given: &Given,
+) -> Result<Told, Untold> {
+    let (start, codes, budget) = (given.start, given.codes, given.budget);
+    let chosen = Chosen::default();
+    if let Some(seam) = given.program {
+        let replay = splitting(second).ok_or(Untold::Missing("y86_replay_split"))?;
+        let (program, writable) = memory.split_at_mut(seam);
+        let told = engine::full_outcome(|result| {
+            replay(
+                program, writable, registers, result, start, codes, budget, chosen,
+            )
+        });
+        return told.map(Told::all).map_err(Untold::Refused);
+    }
     let Some(replay) = telling(second) else {
         let replay = engine::replay;
-        let outcome = engine::outcome(replay, memory, registers, start, codes, budget)?;
-        return Ok(Told {
-            outcome,
-            fault: None,
-        });
+        let outcome = engine::outcome(replay, memory, registers, start, codes, budget);
+        return outcome.map(Told::short).map_err(Untold::Refused);
     };
-    let numbers = (start, codes, budget);
-    let full = engine::full_outcome(replay, memory, registers, numbers, Chosen::default())?;
-    Ok(Told {
-        outcome: full.outcome,
-        fault: Some((full.reason, full.fault_address)),
-    })
+    let told = engine::full_outcome(|result| {
+        replay(memory, registers, result, start, codes, budget, chosen)
+    });
+    told.map(Told::all).map_err(Untold::Refused)
+}
+
+impl Told {
+    fn all(full: FullOutcome) -> Told {
+        Told {
+            outcome: full.outcome,
+            fault: Some((full.reason, full.fault_address)),
+        }
+    }
+
+    fn short(outcome: Outcome) -> Told {
+        let fault = None;
+        Told { outcome, fault }
+    }
 }
 
 /// The replay that gives the full block, where the engine has one.
@@ -55,5 +97,13 @@ fn telling(second: bool) -> Option<ReplaySet> {
     match second {
         true => Some(second::replay_set),
         false => engine::REPLAY_SET,
+    }
+}
+
+/// The replay over two memories, where the engine has one.
+fn splitting(second: bool) -> Option<ReplaySplit> {
+    match second {
+        true => Some(second::replay_split),
+        false => engine::REPLAY_SPLIT,
     }
 }

@@ -1,6 +1,6 @@
 //! The text that `desk replay` shows for an outcome.
 
-use crate::replaying::Told;
+use crate::replaying::{Given, Told};
 use desk::engine::Outcome;
 use desk::second::machine::REGISTER_NAMES;
 use desk::second::replay::read_registers;
@@ -10,7 +10,7 @@ use desk::second::{Reason, Status};
 /// What stood before the replay.
 pub struct Before<'a> {
     pub memory: &'a [u8],
-    pub budget: u64,
+    pub given: &'a Given,
 }
 
 /// The exit status of an outcome: 0 for HLT, and 1 to 3 for AOK, ADR and INS.
@@ -35,7 +35,7 @@ pub fn text(
     let outcome = &told.outcome;
     let codes = outcome.codes;
     let (zf, sf, of) = (codes >> 2 & 1, codes >> 1 & 1, codes & 1);
-    let mut text = ending(told, before.budget, memory);
+    let mut text = ending(told, before.given, memory);
     text += &format!("last     {}: {at_last}\n", address(outcome.last));
     text += &format!("codes    {codes} (ZF {zf}, SF {sf}, OF {of})\n");
     text += &format!("retired  {}\n", outcome.retired);
@@ -47,12 +47,14 @@ pub fn text(
 
 /// How a replay ended: the status and, where it was told and there is one, the
 /// reason.
-pub fn ending(told: &Told, budget: u64, memory: &[u8]) -> String {
+pub fn ending(told: &Told, given: &Given, memory: &[u8]) -> String {
     let outcome = &told.outcome;
-    let mut text = format!("status   {}\n", status(outcome.status, budget));
+    let mut text = format!("status   {}\n", status(outcome.status, given.budget));
     let reason = told.fault.and_then(|(number, at)| {
         let reason = Reason::from_number(number)?;
-        why(reason, at, memory).or_else(|| access(outcome))
+        crossing(reason, at, given)
+            .or_else(|| why(reason, at, memory))
+            .or_else(|| access(outcome, given))
     });
     if let Some(reason) = reason {
         text += &format!("reason   {reason}\n");
@@ -90,11 +92,22 @@ fn why(reason: Reason, at: u64, memory: &[u8]) -> Option<String> {
     Some(words)
 }
 
+/// The words for an instruction that crosses the seam (#110).
+fn crossing(reason: Reason, at: u64, given: &Given) -> Option<String> {
+    let crosses = reason == Reason::LaterMissing && given.program == usize::try_from(at).ok();
+    let words = || format!("the instruction goes on behind the program's bytes, at {at:#x}");
+    crosses.then(words)
+}
+
 /// The words for ADR without a failed fetch.
-fn access(outcome: &Outcome) -> Option<String> {
+fn access(outcome: &Outcome, given: &Given) -> Option<String> {
     let words = || {
         let last = outcome.last;
-        format!("the instruction at {last:#x} reads or writes a word that is not in memory")
+        let reach = match given.program {
+            None => "a word that is not in memory",
+            Some(_) => "a word that is not inside one memory, or writes among the program's bytes",
+        };
+        format!("the instruction at {last:#x} reads or writes {reach}")
     };
     (outcome.status == Status::Adr.number()).then(words)
 }

@@ -159,6 +159,36 @@ fn a_failed_fetch_is_told_in_words() {
     }
 }
 
+/// #110: the first bytes as a program that is only read, by every engine that
+/// takes it.
+#[test]
+fn a_program_part_is_only_read() {
+    // rmmovq %rax, 11(%rbx); halt, and eight bytes behind them
+    let code = "40030b00000000000000 00 1111111111111111";
+    let image = file("program.img", &from_hex(code));
+    let cases = [
+        (&["--program", "11"][..], 0, "HLT (2)"),
+        (&["--program=0"], 0, "HLT (2)"),
+        (&["--program", "0xc"], 2, "among the program's bytes"),
+        (&["--program", "9"], 2, "behind the program's bytes, at 0x9"),
+        (&["--program", "19"], 2, "ADR (3)"),
+    ];
+    for (option, status, says) in cases {
+        let words = [&["replay", &image][..], option].concat();
+        let second = said(&[&words[..], &["--second"]].concat());
+        assert_eq!((second.0, second.2.as_str()), (status, ""), "{option:?}");
+        assert!(second.1.contains(says), "{}", second.1);
+        match desk::engine::REPLAY_SPLIT {
+            Some(_) => assert_eq!(said(&words), second),
+            None => fault(&words, 64, &["y86_replay_split", "--second"]),
+        }
+    }
+    let long = ["replay", &image, "--program", "20", "--second"];
+    fault(&long, 64, &["--program 20", "has 19 bytes"]);
+    let peaks = ["peaks", &image, "--program", "9"];
+    fault(&peaks, 64, &["no option of peaks"]);
+}
+
 /// The options in any place, numbers in two ways, and a last word cut at N.
 #[test]
 fn options_are_taken() {
