@@ -4,6 +4,7 @@
 
 mod calls;
 mod listings;
+mod patching;
 mod programs;
 mod random;
 mod ranges;
@@ -17,6 +18,7 @@ pub use records::Record;
 
 use crate::second::machine::{CYCLE_LIMIT, MEMORY_LIMIT, PROGRAM_LIMIT};
 use crate::second::replay::{read_registers, Chosen, FULL_BYTES, REGISTER_BYTES, RESULT_BYTES};
+use crate::second::window::Window;
 
 /// What a case is made to try.
 #[derive(Clone, Copy, Debug, PartialEq, Eq)]
@@ -38,10 +40,12 @@ pub enum Kind {
     /// Images of 4,096 to 65,536 bytes, with code, stack and data around 4,096
     /// and at the end.
     Large,
+    /// Programs that patch their own code (#113).
+    Patching,
 }
 
 impl Kind {
-    pub const ALL: [Kind; 8] = [
+    pub const ALL: [Kind; 9] = [
         Kind::RandomBytes,
         Kind::Soup,
         Kind::Loops,
@@ -49,6 +53,7 @@ impl Kind {
         Kind::Charges,
         Kind::SelfModifying,
         Kind::Refusals,
+        Kind::Patching,
         Kind::Large,
     ];
 
@@ -63,6 +68,7 @@ impl Kind {
             Kind::SelfModifying => "self-modifying",
             Kind::Refusals => "refusals",
             Kind::Large => "large",
+            Kind::Patching => "patching",
         }
     }
 }
@@ -132,6 +138,7 @@ impl Generator {
             Kind::Charges => programs::charges(random, size),
             Kind::SelfModifying => programs::self_modifying(random, size),
             Kind::Large => programs::large(random, size),
+            Kind::Patching => patching::patching(random, size),
             Kind::RandomBytes | Kind::Refusals => programs::random_bytes(random, size),
         };
         let registers = program.registers.iter().flat_map(|word| word.to_le_bytes());
@@ -157,7 +164,7 @@ impl Generator {
             true => self.random.bytes(FULL_BYTES),
             false => wrong_length(&mut self.random, FULL_BYTES),
         };
-        let chosen = self.chosen();
+        let chosen = self.chosen(&case);
         (case, chosen)
     }
 
@@ -192,20 +199,49 @@ impl Generator {
         seam.min(size)
     }
 
-    /// Settings as numbers.
-    fn chosen(&mut self) -> Chosen {
+    /// A window over the code of a case (#113): over what a plan laid, or all,
+    /// with ends that are moved a little, or anywhere.
+    pub fn window(&mut self, case: &Case) -> Window {
         let random = &mut self.random;
-        let (rule, late) = (random.below(3), random.below(2));
+        let (size, code_end) = (case.image.len() as u64, case.code_end as u64);
+        let (few, some) = (random.below(13), random.below(61));
+        let any = random.below(size + 1);
+        let begin = random.pick(&[0, case.start]);
+        let first = random.pick(&[begin, begin, begin, begin, begin, few, some, any]);
+        let near = (code_end + few).saturating_sub(6);
+        let end = random.pick(&[code_end, code_end, near, near, size, size, some, any]);
+        let (first, end) = (first.min(size), end.min(size));
+        Window {
+            first: first.min(end),
+            end: end.max(first),
+        }
+    }
+
+    /// Settings as numbers; without a window its addresses are anything.
+    fn chosen(&mut self, case: &Case) -> Chosen {
+        let window = self.window(case);
+        let random = &mut self.random;
+        let windowed = random.below(2);
         let mut chosen = Chosen {
-            rule,
-            late,
-            ..Chosen::default()
+            rule: random.below(3),
+            late: random.below(2),
+            windowed,
+            first: window.first,
+            end: window.end,
         };
+        if windowed == 0 {
+            (chosen.first, chosen.end) = (random.word(), random.below(9));
+        }
         if random.chance(1, 8) {
             let over = random.pick(&[3, 4, 255, 256, 1 << 32, u64::MAX]);
-            match random.below(2) {
+            match random.below(4) {
                 0 => chosen.rule = over,
-                _ => chosen.late = over - 1,
+                1 => chosen.late = over - 1,
+                2 => chosen.windowed = over - 1,
+                _ => {
+                    let refused = refused_window(random, case.image.len());
+                    (chosen.windowed, chosen.first, chosen.end) = (1, refused.first, refused.end);
+                }
             }
         }
         chosen
@@ -225,7 +261,9 @@ impl Generator {
         let most = self.random.pick(&[24, 64, 256, 256, 512, 1_024]);
         let size = 1 + self.random.below(most) as usize;
         let room = match kind {
-            Kind::Loops | Kind::Charges | Kind::SelfModifying => self.random.chance(7, 8),
+            Kind::Loops | Kind::Charges | Kind::SelfModifying | Kind::Patching => {
+                self.random.chance(7, 8)
+            }
             Kind::Soup => self.random.chance(1, 2),
             _ => false,
         };
@@ -285,6 +323,24 @@ impl Generator {
             4 => case.codes = random.pick(&[8, 9, 255, 256, 1 << 32, u64::MAX, any | 8]),
             _ => case.start = outside(random, case.image.len() as u64),
         }
+    }
+}
+
+/// A window that refusal 5 meets in a memory of this size.
+fn refused_window(random: &mut Random, size: usize) -> Window {
+    let size = size as u64;
+    let (inside, over) = (random.below(size + 1), outside(random, size + 1));
+    let (first, end) = random.pick(&[
+        (inside, over),
+        (over, over),
+        (over, inside),
+        (inside + 1, inside),
+        (size, 0),
+        (0, size + 1),
+    ]);
+    match first == 0 && end == 0 {
+        true => Window { first: 1, end },
+        false => Window { first, end },
     }
 }
 

@@ -4,7 +4,7 @@
 mod common;
 
 use common::tally::Tally;
-use common::{codes, plain, seams, settings};
+use common::{codes, plain, seams, settings, windows};
 use desk::generate::{Case, Generator, Kind};
 use desk::second::account::{Account, Kind as Charge, Performed};
 use desk::second::machine::Status;
@@ -26,7 +26,7 @@ struct Seen {
     whole: usize,
     cut: usize,
     retired: u64,
-    charged: [u64; 3],
+    charged: [u64; 4],
     stops: [usize; 5],
     /// Stops by the reason of a failed fetch (#107), 0 for none.
     faults: [usize; 6],
@@ -36,6 +36,8 @@ struct Seen {
     stores: BTreeMap<(&'static str, bool), usize>,
     /// Runs with all instructions in the program part; those of them that store.
     read_only: [usize; 2],
+    /// What was seen of stores into a window.
+    tally: Tally,
 }
 
 /// The iaddq among them: how many, by -2^63, by 2^63 - 1, and charged for a
@@ -141,10 +143,14 @@ struct Follower {
 }
 
 impl Follower {
-    fn new(case: &Case, seam: usize) -> Follower {
+    fn new(case: &Case, seam: usize, settings: Settings) -> Follower {
         let registers = read_registers(&case.registers);
+        let machine = plain(&case.image, registers, codes(case.codes), case.start);
         Follower {
-            machine: plain(&case.image, registers, codes(case.codes), case.start),
+            machine: Plain {
+                window: settings.window,
+                ..machine
+            },
             memory: case.image.clone(),
             seam,
         }
@@ -191,7 +197,7 @@ fn compare_kind(kind: Kind, settings: Settings) {
     assert!(seen.whole > programs / 8, "{} {seen:?}", kind.name());
     assert!(seen.stops[2..].iter().all(|stops| *stops > 0));
     if kind != Kind::RandomBytes {
-        assert!(seen.charged.iter().all(|cycles| *cycles > 20));
+        assert!(seen.charged[..3].iter().all(|cycles| *cycles > 20));
     }
     if let Kind::Soup | Kind::Charges = kind {
         let Added {
@@ -239,9 +245,39 @@ fn the_pipeline_meets_the_account_over_two_memories() {
     assert!(seen.faults.iter().all(|stops| *stops > 20));
 }
 
+/// #113: with a window there is no premise on stores, over one memory and over
+/// two.
+#[test]
+fn with_a_window_the_pipeline_meets_the_account() {
+    let mut seen = Seen::default();
+    for kind in Kind::ALL {
+        let mut generator = Generator::new(0x113 + kind as u64);
+        let programs = match kind {
+            Kind::Refusals => 0,
+            Kind::Large => PROGRAMS / 20,
+            Kind::Patching => 2 * PROGRAMS,
+            _ => PROGRAMS / 4,
+        };
+        for number in 0..programs {
+            let case = generator.case_of(kind);
+            let (window, seam) = (generator.window(&case), generator.seam(&case));
+            let seam = [0, 0, 0, seam][number % 4];
+            for given in settings::ALL {
+                let window = Some(window);
+                compare(&case, seam, Settings { window, ..given }, &mut seen);
+            }
+        }
+    }
+    println!("{seen:?}");
+    println!("{}", seen.tally.table(windows::CLASSES));
+    seen.tally.check(windows::CLASSES, 20);
+    assert!(seen.charged.iter().all(|cycles| *cycles > 1_000));
+    assert!(seen.faults.iter().all(|stops| *stops > 20));
+}
+
 /// Counts what the plain engine does around the seam.
 fn count_seam(tally: &mut Tally, case: &Case, seam: usize) {
-    let mut plain = Follower::new(case, seam);
+    let mut plain = Follower::new(case, seam, Settings::default());
     let extent = Memory::split(&mut plain.memory, seam).extent();
     tally.count("memory", seams::parts_name(extent));
     while plain.machine.status == Status::Aok && plain.machine.count < MOST as u64 {
@@ -253,7 +289,7 @@ fn count_seam(tally: &mut Tally, case: &Case, seam: usize) {
 /// Runs the pipeline clock by clock against the account of the plain history,
 /// over memory with a seam, 0 for one memory.
 fn compare(case: &Case, seam: usize, settings: Settings, seen: &mut Seen) {
-    let mut whole = Follower::new(case, seam);
+    let mut whole = Follower::new(case, seam, settings);
     let account = whole.account(settings);
     let reach = account.premise_reach();
     let over = account.stopped && reach == account.performed.len();
@@ -263,10 +299,13 @@ fn compare(case: &Case, seam: usize, settings: Settings, seen: &mut Seen) {
     };
     let mut memory = case.image.clone();
     let mut machine = pipeline(case, settings);
-    let mut plain = [(); 3].map(|()| Follower::new(case, seam));
+    let mut plain = [(); 3].map(|()| Follower::new(case, seam, settings));
     for clock in 1..=last_clock {
+        let before = machine;
         let lent = Memory::split(&mut memory, seam);
         machine.clock(lent).expect("a clock");
+        let follower = account.performed.get(machine.retired as usize + 1);
+        windows::count_clock(&mut seen.tally, &before, &machine, follower);
         compare_clock(&account, &machine, clock, &mut plain[0]);
         compare_ahead(&account, (&machine, &memory), clock, &mut plain[1..]);
     }
@@ -276,12 +315,15 @@ fn compare(case: &Case, seam: usize, settings: Settings, seen: &mut Seen) {
         seen.faults[machine.fault.reason.number() as usize] += 1;
     }
     count_read_only(&account, seam, seen);
+    if let Some(window) = settings.window {
+        windows::count_history(&mut seen.tally, &account, window);
+    }
     seen.whole += usize::from(over);
     seen.cut += usize::from(!over);
     seen.retired += machine.retired;
     count_performed(&account.performed[..reach], settings, seen);
     let kinds = machine.kinds;
-    let charged = [kinds.load_use, kinds.mispredict, kinds.returns];
+    let charged = [kinds.load_use, kinds.mispredict, kinds.returns, kinds.patch];
     for (sum, cycles) in seen.charged.iter_mut().zip(charged) {
         *sum += cycles;
     }
@@ -326,6 +368,7 @@ fn compare_clock(account: &Account, machine: &Pipeline, clock: u64, plain: &mut 
         load_use: account.charged(Charge::LoadUse, due),
         mispredict: account.charged(Charge::Mispredict, due),
         returns: account.charged(Charge::Return, due),
+        patch: account.charged(Charge::Patch, due),
     };
     assert_eq!(machine.kinds, kinds);
     let stopped = machine.status != Status::Aok;
@@ -335,7 +378,7 @@ fn compare_clock(account: &Account, machine: &Pipeline, clock: u64, plain: &mut 
     };
     assert_eq!(machine.cycles, cycles);
     if let (Some(last), true) = (account.performed[..due].last(), due > 0) {
-        let charges = kinds.load_use + kinds.mispredict + kinds.returns;
+        let charges = kinds.load_use + kinds.mispredict + kinds.returns + kinds.patch;
         assert_eq!(last.due, due as u64 + 4 + charges);
         assert!(last.due <= 4 * due as u64 + 1);
     }
@@ -433,7 +476,7 @@ fn logs_show_the_account() {
 }
 
 fn compare_logs(case: &Case, settings: Settings) {
-    let account = Follower::new(case, 0).account(settings);
+    let account = Follower::new(case, 0, settings).account(settings);
     let reach = account.premise_reach();
     if reach == 0 {
         return;

@@ -9,10 +9,12 @@ use desk::programs::{figure_4_8, from_hex, listing_001, listing_004, stretched_0
 use desk::second::account::Account;
 use desk::second::arithmetic::operate;
 use desk::second::fault::Fault;
+use desk::second::listing;
 use desk::second::machine::Registers;
 use desk::second::memory::Memory;
 use desk::second::pipeline::{Logs, Pipeline, Settings};
 use desk::second::plain::Plain;
+use desk::second::window::Window;
 use desk::second::word;
 use desk::second::{y86run, Reason, Status, RSP};
 
@@ -162,6 +164,123 @@ fn run_split(program: &[u8], writable: &[u8], rdx: u64) -> (Pipeline, Plain) {
     assert_eq!(bytes, other);
     assert_eq!((&bytes[..program.len()], bytes.len()), (program, size));
     (machine, plain)
+}
+
+/// #113: settings with a window, and document 01's otherwise.
+fn windowed(first: u64, end: u64) -> Settings {
+    Settings {
+        window: Some(Window { first, end }),
+        ..Settings::default()
+    }
+}
+
+/// A plain run from address 0 through a window.
+fn run_plain_through(image: &[u8], given: Registers, settings: Settings) -> (Plain, Vec<u8>) {
+    let mut memory = image.to_vec();
+    let mut machine = plain(&memory, given, codes(4), 0);
+    machine.window = settings.window;
+    machine.run(&mut memory, 4_000, None).expect("a run");
+    (machine, memory)
+}
+
+/// #113: the example that rewrites its own constant. With a window it is the
+/// plain engine's sum; without one, two turns of three see the constant as it
+/// was.
+#[test]
+fn the_example_patches_itself() {
+    let text = include_str!("../../examples/patching.lst");
+    let image = listing::image(text.as_bytes(), 256).expect("a listing");
+    let (plain, memory) = run_plain(&image, Registers::default());
+    assert_eq!((plain.registers.0[0], plain.status), (96, Status::Hlt));
+    let ran = run_with(&image, Registers::default(), windowed(0, 0x3e));
+    assert_eq!(
+        (ran.machine.registers, &ran.memory),
+        (plain.registers, &memory)
+    );
+    let kinds = ran.machine.kinds;
+    assert_eq!((kinds.patch, kinds.mispredict), (9, 2));
+    assert_eq!((ran.machine.retired, ran.machine.cycles), (20, 20 + 4 + 11));
+    let without = run_pipeline(&image, Registers::default());
+    assert_eq!(without.machine.registers.0[0], 16 + 16 + 32);
+    assert_eq!(without.machine.kinds.patch, 0);
+}
+
+/// #113: a window's bytes are all that an instruction may have: image, window,
+/// reason and byte at fault, by both engines.
+#[test]
+fn a_byte_outside_the_window_is_missing() {
+    let cases = [
+        ("101000", (0, 3), Reason::None, 0),
+        ("101000", (0, 2), Reason::FirstMissing, 2),
+        ("101000", (1, 3), Reason::FirstMissing, 0),
+        ("101000", (0, 0), Reason::FirstMissing, 0),
+        ("106000", (0, 2), Reason::LaterMissing, 2),
+        ("106000", (0, 3), Reason::FirstMissing, 3),
+        // Function, then what is missing, then the register, as ever.
+        ("1064ff", (0, 2), Reason::Function, 1),
+        ("1060ff", (0, 2), Reason::LaterMissing, 2),
+        ("1060ff", (0, 3), Reason::Register, 2),
+        // A load and a store are not held to the window.
+        ("50020000000000000000a00f00", (0, 13), Reason::None, 0),
+    ];
+    for (image, (first, end), reason, address) in cases {
+        let (image, settings) = (from_hex(image), windowed(first, end));
+        let fault = Fault { reason, address };
+        let ran = run_with(&image, registers(&[(2, 1)]), settings);
+        assert_eq!(ran.machine.fault, fault, "{image:x?}, {settings:?}");
+        let (plain, memory) = run_plain_through(&image, registers(&[(2, 1)]), settings);
+        assert_eq!((plain.fault, memory), (fault, ran.memory));
+        assert_eq!(plain.status, ran.machine.status);
+    }
+}
+
+/// #113: the follower of a store is charged 3 exactly when the word has a byte
+/// in the window: where the store goes, the window, and the charge.
+#[test]
+fn a_store_patches_by_any_byte_of_the_window() {
+    // rmmovq %rax, (%rdx); nop; halt, in 64 bytes
+    let mut image = from_hex("400200000000000000001000");
+    image.resize(64, 0);
+    let cases = [
+        (12, (0, 12), 0),
+        (11, (0, 12), 3),
+        (12, (0, 13), 3),
+        (12, (0, 64), 3),
+        (40, (0, 41), 3),
+        (40, (0, 40), 0),
+        (40, (0, 48), 3),
+    ];
+    for (address, (first, end), charged) in cases {
+        let given = registers(&[(0, 0x10), (2, address)]);
+        let settings = windowed(first, end);
+        let ran = run_with(&image, given, settings);
+        let (plain, memory) = run_plain_through(&image, given, settings);
+        assert_eq!(ran.machine.kinds.patch, charged, "{address}, {settings:?}");
+        assert_eq!(ran.machine.cycles, ran.machine.retired + 4 + charged);
+        assert_eq!((plain.last, memory), (ran.machine.last, ran.memory));
+        assert_eq!(plain.registers, ran.machine.registers);
+    }
+}
+
+/// #113: a failing store into the window cancels nothing, and what follows a
+/// call is its target.
+#[test]
+fn a_call_that_patches_goes_on_at_its_target() {
+    // irmovq $0x28, %rsp; call 0x20: the word 0x13 goes to 0x20, where a halt is.
+    let mut image = from_hex("30f42800000000000000802000000000000000");
+    image.resize(64, 0x10);
+    image[0x20] = 0;
+    let settings = windowed(0, 64);
+    let ran = run_with(&image, Registers::default(), settings);
+    assert_eq!(ran.machine.kinds.patch, 3);
+    assert_eq!((ran.machine.status, ran.machine.last), (Status::Ins, 0x20));
+    assert_eq!(ran.addresses, [0, 10, 0x20]);
+    assert_eq!(ran.cycles, [5, 6, 10]);
+    // pushq at an rsp of 4 fails, and the machine stops there.
+    let stops = from_hex("30f40400000000000000a00f00");
+    let ran = run_with(&stops, Registers::default(), windowed(0, 13));
+    assert_eq!((ran.machine.status, ran.machine.last), (Status::Adr, 10));
+    assert_eq!(ran.machine.kinds.patch, 0);
 }
 
 #[test]

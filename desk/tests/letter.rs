@@ -4,7 +4,7 @@
 mod common;
 
 use common::tally::{Classes, Tally};
-use common::{codes, pipeline, seams, settings};
+use common::{codes, pipeline, seams, settings, windows};
 use desk::generate::{Call, Calls, Generator, Origin, Way};
 use desk::second::fault::{Reason, Stop};
 use desk::second::fetch::{fetch, Parts};
@@ -15,7 +15,7 @@ use desk::second::pipeline::{Logs, Pipeline, Settings};
 use desk::second::plain::Plain;
 use desk::second::replay::read_registers;
 use desk::second::stages::{Accessing, Decoding, Executing, Instruction, Writing};
-use desk::second::table::{row_of, IADDQ, IRMOVQ, JXX, POPQ, PUSHQ};
+use desk::second::table::{row_of, CALL, IADDQ, IRMOVQ, JXX, POPQ, PUSHQ, RMMOVQ};
 
 /// How many calls of each engine are compared; unoptimised code gets fewer.
 const CALLS: u64 = if cfg!(debug_assertions) {
@@ -27,7 +27,7 @@ const CALLS: u64 = if cfg!(debug_assertions) {
 const RECORDS: [&str; 3] = ["fresh", "reached", "hand-made"];
 const CLASSES: &Classes = &[
     ("plain record", &RECORDS),
-    ("plain answer", &["0", "1", "3", "4"]),
+    ("plain answer", &["0", "1", "3", "4", "5"]),
     ("pipeline record", &RECORDS),
     ("pipeline answer", &["0", "1", "3", "4", "5"]),
     ("start answer", &["0", "1", "5", "6"]),
@@ -58,7 +58,8 @@ fn the_fast_engines_are_the_letters_equal() {
         );
     }
     for _ in 0..CALLS {
-        let ((size, start), given) = (calls.start(), calls.settings());
+        let (size, start) = calls.start();
+        let given = calls.settings(size);
         let answer = compare_starts(size, start, given);
         tally.count("start answer", number_name(answer));
         tally.count("start with rule", settings::rule_name(given.rule));
@@ -66,7 +67,13 @@ fn the_fast_engines_are_the_letters_equal() {
         tally.count("start with late store data", late);
     }
     println!("compared {CALLS} calls of each engine, and as many starts");
-    let classes = [CLASSES, settings::CLASSES, seams::CALL_CLASSES].concat();
+    let classes = [
+        CLASSES,
+        settings::CLASSES,
+        seams::CALL_CLASSES,
+        windows::CALL_CLASSES,
+    ]
+    .concat();
     println!("{}", tally.table(&classes));
     tally.check(&classes, 1);
 }
@@ -90,8 +97,9 @@ fn number_name(answer: Result<(), Refusal>) -> &'static str {
 /// the pipelined one, which has the settings.
 fn compare_starts(size: u64, start: u64, settings: Settings) -> Result<(), Refusal> {
     let (registers, codes) = (Registers::default(), codes(4));
-    let fast = Plain::fresh(size, registers, codes, start);
-    let expected = letter::Machine::fresh(size, registers, codes, start);
+    let window = settings.window;
+    let fast = Plain::fresh(size, registers, codes, start, window);
+    let expected = letter::Machine::fresh(size, registers, codes, start, window);
     assert_eq!(fast, expected.map(|record| plain(&record)));
     let fast = Pipeline::fresh(size, registers, codes, start, settings);
     let expected = letter::Pipeline::fresh(size, registers, codes, start, settings);
@@ -134,6 +142,9 @@ fn compare_pipelined(
     let parts = Memory::split(&mut call.memory, call.seam);
     let expected = call.record.run(parts, call.budget, logs(&mut call.logs));
     seams::count_pipelined(tally, &given, &call.record, extent);
+    if answer.is_ok() {
+        windows::count_call(tally, &given, extent);
+    }
     assert_eq!(answer, expected, "call {number}: {given:?}");
     assert_eq!(fast, packed(&call.record), "call {number}: {given:?}");
     assert!(memory == call.memory && lent == call.logs, "call {number}");
@@ -157,12 +168,14 @@ fn plain(record: &letter::Machine) -> Plain {
         last: record.last,
         count: record.count,
         fault: record.fault,
+        window: record.window,
     }
 }
 
 /// Changes a record so that the fast engine can hold it: an instruction's next
 /// address is what its code gives, a register number that plays no part is not
-/// over 15, and the status in W is that of the fetch, or ADR.
+/// over 15, the status in W is that of the fetch, or ADR, and only a store has
+/// written into the window.
 fn fit(record: &mut letter::Pipeline) {
     let held = [
         record.d.as_mut(),
@@ -177,10 +190,15 @@ fn fit(record: &mut letter::Pipeline) {
         instruction.ra &= 15;
         instruction.rb &= 15;
     }
+    let stores = |held: &letter::Instruction| matches!(held.code, RMMOVQ | PUSHQ | CALL);
     if let Some(w) = &mut record.w {
         if w.status != w.instruction.status {
             w.status = Status::Adr;
         }
+        w.patched &= stores(&w.instruction);
+    }
+    if let Some(kept) = &mut record.kept {
+        kept.patched &= stores(&kept.instruction);
     }
 }
 
@@ -202,7 +220,7 @@ fn packed(record: &letter::Pipeline) -> Pipeline {
         m: record.m.map(|m| Accessing {
             instruction: undecided(&m.instruction).decided(m.holds),
             result: result(&m.instruction, m.result),
-            a: m.a,
+            a: handed_on(&m),
         }),
         w: record.w.map(|w| Writing {
             instruction: written(&w, undecided(&w.instruction)),
@@ -216,9 +234,12 @@ fn packed(record: &letter::Pipeline) -> Pipeline {
         retired: record.retired,
         cycles: record.cycles,
         kinds: record.kinds,
-        kept: record
-            .kept
-            .map(|kept| undecided(&kept.instruction).decided(kept.holds)),
+        kept: record.kept.map(|kept| {
+            marked(
+                undecided(&kept.instruction).decided(kept.holds),
+                kept.patched,
+            )
+        }),
         settings: record.settings,
         fault: record.fault,
     }
@@ -231,6 +252,22 @@ fn undecided(held: &letter::Instruction, rule: u8) -> Instruction {
         .guessed(rule, held.constant)
 }
 
+/// A call stores no source, and the fast engine has its C there.
+fn handed_on(m: &letter::Executed) -> u64 {
+    match m.instruction.code {
+        CALL => m.instruction.constant,
+        _ => m.a,
+    }
+}
+
+/// The instruction, marked where it has written into the window.
+fn marked(instruction: Instruction, patched: bool) -> Instruction {
+    match patched {
+        true => instruction.patched(),
+        false => instruction,
+    }
+}
+
 /// A jump has no result, and the fast engine has its C there.
 fn result(held: &letter::Instruction, result: u64) -> u64 {
     match held.code {
@@ -240,7 +277,7 @@ fn result(held: &letter::Instruction, result: u64) -> u64 {
 }
 
 fn written(w: &letter::Accessed, undecided: Instruction) -> Instruction {
-    let decided = undecided.decided(w.holds);
+    let decided = marked(undecided.decided(w.holds), w.patched);
     match w.status == w.instruction.status {
         true => decided,
         false => decided.outside(),
@@ -256,7 +293,9 @@ fn programs_are_the_letters_equal_by_every_setting() {
         let case = generator.case_of(kind);
         let budget = case.budget.min(400);
         let seam = [0, generator.seam(&case)][number as usize % 2];
+        let window = Some(generator.window(&case)).filter(|_| number % 4 > 1);
         for settings in settings::ALL {
+            let settings = Settings { window, ..settings };
             let record = letter::Pipeline::fresh(
                 case.image.len() as u64,
                 read_registers(&case.registers),
@@ -289,9 +328,11 @@ fn fetches_are_the_letters_equal() {
         let (Ok(()), expected, at_fault) = letter::fetch_open(lent, address) else {
             continue;
         };
-        let fast = fetch(&Memory::split(&mut memory, seam), address);
+        let fast = fetch(&Memory::split(&mut memory, seam), None, address);
         assert_eq!(fast, by_the_letter(&expected), "call {number}");
-        let derived = expected.reason.address(address, extent.code_end(address));
+        let derived = expected
+            .reason
+            .address(address, extent.code_end(address, None));
         assert_eq!(derived, at_fault, "call {number}");
         reasons[expected.reason.number() as usize] += 1;
         at_seam += u64::from(crosses(extent, &expected, at_fault));

@@ -10,6 +10,7 @@ use desk::second::pipeline::{Kinds, Logs, Pipeline, Settings};
 use desk::second::plain::Plain;
 use desk::second::replay;
 use desk::second::stages::{Accessing, Decoding, Executing, Instruction, Writing};
+use desk::second::window::Window;
 
 fn plain() -> Plain {
     common::plain(&[0x10], Registers::default(), codes(4), 0)
@@ -200,21 +201,28 @@ fn records_are_refused_for_what_they_hold() {
 
 #[test]
 fn counts_above_the_cycles_are_refused() {
-    let kinds = |load_use, mispredict, returns| Kinds {
+    let kinds = |load_use, mispredict, returns, patch| Kinds {
         load_use,
         mispredict,
         returns,
+        patch,
     };
     let mut machine = pipeline();
     machine.cycles = 7;
-    for spoilt in [kinds(8, 0, 0), kinds(0, 8, 0), kinds(0, 0, 8)] {
+    let above = [
+        kinds(8, 0, 0, 0),
+        kinds(0, 8, 0, 0),
+        kinds(0, 0, 8, 0),
+        kinds(0, 0, 0, 8),
+    ];
+    for spoilt in above {
         machine.kinds = spoilt;
         assert_eq!(
             pipeline_refusal(machine, 1, 1, (1, 1)),
             Some(Refusal::Record)
         );
     }
-    machine.kinds = kinds(7, 7, 7);
+    machine.kinds = kinds(7, 7, 7, 7);
     machine.retired = 7;
     assert_eq!(pipeline_refusal(machine, 1, 1, (1, 1)), None);
     machine.retired = 8;
@@ -226,7 +234,13 @@ fn counts_above_the_cycles_are_refused() {
 
 /// Every rule number, without late store data and with it.
 fn any_settings() -> impl Iterator<Item = Settings> {
-    let both = |rule| [false, true].map(|late| Settings { rule, late });
+    let both = |rule| {
+        [false, true].map(|late| Settings {
+            rule,
+            late,
+            window: None,
+        })
+    };
     (0..=u8::MAX).flat_map(both)
 }
 
@@ -299,6 +313,65 @@ fn fresh_starts_are_refused_for_the_rule() {
     }
 }
 
+/// #113: a window that does not lie in memory is refusal 5, of both engines, at
+/// starts after 1 and before 6, and at runs.
+#[test]
+fn windows_outside_memory_are_refused() {
+    let (registers, codes) = (Registers::default(), codes(4));
+    let cases = [
+        (0, 0, true),
+        (0, 9, true),
+        (9, 9, true),
+        (4, 6, true),
+        (0, 10, false),
+        (10, 10, false),
+        (5, 4, false),
+        (1, 0, false),
+        (0, u64::MAX, false),
+        (u64::MAX, 0, false),
+        (u64::MAX, u64::MAX, false),
+    ];
+    for (first, end, fits) in cases {
+        let window = Some(Window { first, end });
+        let settings = Settings {
+            window,
+            ..Settings::default()
+        };
+        let of_window = (!fits).then_some(Refusal::Record);
+        let starts = [
+            (0, 0, Some(Refusal::Memory)),
+            (9, 0, of_window),
+            (9, 9, of_window.or(Some(Refusal::Start))),
+        ];
+        for (size, start, expected) in starts {
+            let answers = [
+                Plain::fresh(size, registers, codes, start, window).err(),
+                letter::Machine::fresh(size, registers, codes, start, window).err(),
+                Pipeline::fresh(size, registers, codes, start, settings).err(),
+                letter::Pipeline::fresh(size, registers, codes, start, settings).err(),
+            ];
+            assert_eq!(
+                answers, [expected; 4],
+                "{first} to {end}, {start} in {size}"
+            );
+        }
+        let mut machine = Plain::fresh(9, registers, codes, 0, None).expect("a start");
+        machine.window = window;
+        assert_eq!(machine.step(&mut [0x10; 9]).err(), of_window);
+        assert_eq!(machine.step(&mut []).err(), Some(Refusal::Memory));
+        let given = Pipeline {
+            settings,
+            ..pipeline()
+        };
+        assert_eq!(pipeline_refusal(given, 9, 1, (1, 1)), of_window);
+        assert_eq!(
+            pipeline_refusal(given, 9, 1, (1, 0)),
+            Some(Refusal::Buffer),
+            "lowest number wins"
+        );
+    }
+}
+
 /// #109: a fresh start is refused for the size of memory, and last for an
 /// address that is not below it. By the letter too.
 #[test]
@@ -319,9 +392,9 @@ fn fresh_starts_are_refused_by_number() {
     let (registers, codes) = (Registers::default(), codes(4));
     for (size, start, expected) in cases {
         let answers = [
-            Plain::fresh(size, registers, codes, start).err(),
+            Plain::fresh(size, registers, codes, start, None).err(),
             Pipeline::fresh(size, registers, codes, start, Settings::default()).err(),
-            letter::Machine::fresh(size, registers, codes, start).err(),
+            letter::Machine::fresh(size, registers, codes, start, None).err(),
             letter::Pipeline::fresh(size, registers, codes, start, Settings::default()).err(),
         ];
         assert_eq!(answers, [expected; 4], "{start} in {size} bytes");
@@ -333,7 +406,7 @@ fn fresh_starts_are_refused_by_number() {
 #[test]
 fn a_run_that_goes_on_is_not_refused_for_its_start() {
     let (registers, codes) = (Registers::default(), codes(4));
-    let mut machine = Plain::fresh(9, registers, codes, 8).expect("a start");
+    let mut machine = Plain::fresh(9, registers, codes, 8, None).expect("a start");
     assert_eq!(machine.step(&mut [0x10; 8]), Ok(()));
     assert_eq!((machine.status, machine.last), (Status::Adr, 8));
     let mut machine =

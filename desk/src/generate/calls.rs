@@ -2,7 +2,7 @@
 //! hand, some of them to be refused for any reasons together.
 
 use super::records::{refused_rule, settings, Record};
-use super::{outside, refused_memory, Case, Generator, Random};
+use super::{outside, refused_memory, refused_window, Case, Generator, Random};
 use crate::second::arithmetic::Codes;
 use crate::second::machine::{MEMORY_LIMIT, PROGRAM_LIMIT};
 use crate::second::memory::{Extent, Memory};
@@ -173,14 +173,22 @@ impl Calls {
         (size, start)
     }
 
-    /// Settings for a fresh start, refused ones too.
-    pub fn settings(&mut self) -> Settings {
-        let allowed = settings(&mut self.random);
+    /// Settings for a fresh start in a memory of this size, refused ones too.
+    pub fn settings(&mut self, size: u64) -> Settings {
+        let size = size.min(MEMORY_LIMIT as u64) as usize;
+        let allowed = settings(&mut self.random, size);
         let refused = Settings {
             rule: refused_rule(&mut self.random),
             ..allowed
         };
-        self.random.pick(&[allowed, allowed, refused])
+        let outside = Settings {
+            window: Some(refused_window(&mut self.random, size)),
+            ..allowed
+        };
+        let choices = [
+            allowed, allowed, allowed, allowed, refused, refused, outside,
+        ];
+        self.random.pick(&choices)
     }
 
     /// Memory, its seam and an address to fetch from, inside and outside of all

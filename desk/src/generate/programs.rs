@@ -32,16 +32,16 @@ const LEANING: [u8; 16] = [
 const LINE: [u8; 9] = [NOP, CMOV, IRMOVQ, IADDQ, OPQ, OPQ, OPQ, RMMOVQ, MRMOVQ];
 
 /// Code being written, instruction after instruction.
-struct Code {
+pub(super) struct Code {
     /// The address of the first byte.
     origin: u64,
-    bytes: Vec<u8>,
+    pub(super) bytes: Vec<u8>,
     /// What the fillers are taken from.
     fillers: Random,
 }
 
 impl Code {
-    fn at(random: &mut Random, origin: u64) -> Code {
+    pub(super) fn at(random: &mut Random, origin: u64) -> Code {
         Code {
             origin,
             bytes: Vec::new(),
@@ -50,23 +50,23 @@ impl Code {
     }
 
     /// The half of a register byte that names nothing: F, or anything else.
-    fn filler(&mut self) -> u8 {
+    pub(super) fn filler(&mut self) -> u8 {
         let any = self.fillers.below(16) as u8;
         self.fillers.pick(&[15, 15, 15, 0, 8, 14, any])
     }
 
     /// The address of the next instruction written.
-    fn here(&self) -> u64 {
+    pub(super) fn here(&self) -> u64 {
         self.origin.wrapping_add(self.bytes.len() as u64)
     }
 
     /// The address after the code, cut at the size of the image.
-    fn end(&self, size: usize) -> usize {
+    pub(super) fn end(&self, size: usize) -> usize {
         size.min(self.here() as usize)
     }
 
     /// Writes an instruction with the parts its code has.
-    fn write(&mut self, (code, function): (u8, u8), (ra, rb): (u8, u8), constant: u64) {
+    pub(super) fn write(&mut self, (code, function): (u8, u8), (ra, rb): (u8, u8), constant: u64) {
         let row = row_of(code);
         self.bytes.push(code << 4 | function);
         match row.register_byte {
@@ -86,40 +86,40 @@ impl Code {
         }
     }
 
-    fn irmovq(&mut self, constant: u64, rb: u8) {
+    pub(super) fn irmovq(&mut self, constant: u64, rb: u8) {
         self.write((IRMOVQ, 0), (0, rb), constant);
     }
 
-    fn iaddq(&mut self, constant: u64, rb: u8) {
+    pub(super) fn iaddq(&mut self, constant: u64, rb: u8) {
         self.write((IADDQ, 0), (0, rb), constant);
     }
 
-    fn opq(&mut self, function: u8, ra: u8, rb: u8) {
+    pub(super) fn opq(&mut self, function: u8, ra: u8, rb: u8) {
         self.write((OPQ, function), (ra, rb), 0);
     }
 
-    fn pushq(&mut self, ra: u8) {
+    pub(super) fn pushq(&mut self, ra: u8) {
         self.write((PUSHQ, 0), (ra, 0), 0);
     }
 
-    fn popq(&mut self, ra: u8) {
+    pub(super) fn popq(&mut self, ra: u8) {
         self.write((POPQ, 0), (ra, 0), 0);
     }
 
-    fn jump(&mut self, function: u8, target: u64) {
+    pub(super) fn jump(&mut self, function: u8, target: u64) {
         self.write((JXX, function), (0, 0), target);
     }
 
-    fn call(&mut self, target: u64) {
+    pub(super) fn call(&mut self, target: u64) {
         self.write((CALL, 0), (0, 0), target);
     }
 
-    fn plain(&mut self, code: u8) {
+    pub(super) fn plain(&mut self, code: u8) {
         self.write((code, 0), (0, 0), 0);
     }
 
     /// Lays the code over an image, cut where the image ends.
-    fn lay(&self, image: &mut [u8]) {
+    pub(super) fn lay(&self, image: &mut [u8]) {
         let places = image.iter_mut().skip(self.origin as usize);
         for (place, byte) in places.zip(&self.bytes) {
             *place = *byte;
@@ -430,7 +430,7 @@ pub fn charges(random: &mut Random, size: usize) -> Program {
 }
 
 /// A load of a register and one of the instructions that use it, or do not.
-fn load_and_use(random: &mut Random, code: &mut Code, size: usize) {
+pub(super) fn load_and_use(random: &mut Random, code: &mut Code, size: usize) {
     let loaded = register(random);
     let other = register(random);
     let at = random.below(size.saturating_sub(7).max(1) as u64);
@@ -461,7 +461,7 @@ fn load_and_use(random: &mut Random, code: &mut Code, size: usize) {
 }
 
 /// One of the instructions that set the codes.
-fn set_codes(random: &mut Random, code: &mut Code) {
+pub(super) fn set_codes(random: &mut Random, code: &mut Code) {
     match random.below(3) {
         0 => code.iaddq(addend(random), register(random)),
         _ => code.opq(random.below(4) as u8, register(random), register(random)),
@@ -477,7 +477,7 @@ fn addend(random: &mut Random) -> u64 {
 /// A jump behind an instruction that sets the codes or not: over one
 /// instruction, to the next one, back to one that leads on, or, seldom, far
 /// away.
-fn jump_piece(random: &mut Random, code: &mut Code) {
+pub(super) fn jump_piece(random: &mut Random, code: &mut Code) {
     if random.chance(2, 3) {
         set_codes(random, code);
     }
@@ -517,7 +517,7 @@ fn return_piece(random: &mut Random, code: &mut Code) {
 }
 
 /// One of the ways to stop.
-fn stop_piece(random: &mut Random, code: &mut Code, size: usize) {
+pub(super) fn stop_piece(random: &mut Random, code: &mut Code, size: usize) {
     let outside = random.pick(&[size as u64, u64::MAX, u64::MAX - 7, 1 << 63]);
     let far = random.pick(&[outside, (size as u64).wrapping_sub(7)]);
     match random.below(15) {
@@ -592,7 +592,7 @@ fn patched_item(random: &mut Random, code: &mut Code, size: usize) {
 }
 
 /// Eight bytes that make instructions, mostly.
-fn patch(random: &mut Random) -> u64 {
+pub(super) fn patch(random: &mut Random) -> u64 {
     match random.below(4) {
         0 => random.word(),
         1 => 0x1010_1010_1010_1010,
@@ -602,7 +602,7 @@ fn patch(random: &mut Random) -> u64 {
 }
 
 /// What lies where the program does not.
-fn background(random: &mut Random, size: usize) -> Vec<u8> {
+pub(super) fn background(random: &mut Random, size: usize) -> Vec<u8> {
     match random.below(4) {
         0 => random.bytes(size),
         1 => vec![0x10; size],
@@ -628,7 +628,7 @@ fn register(random: &mut Random) -> u8 {
 }
 
 /// Values for all registers; rsp is an address inside, mostly.
-fn registers(random: &mut Random, size: usize) -> [u64; REGISTER_COUNT] {
+pub(super) fn registers(random: &mut Random, size: usize) -> [u64; REGISTER_COUNT] {
     let mut registers = [0; REGISTER_COUNT];
     if random.chance(7, 8) {
         for register in &mut registers {

@@ -1,7 +1,7 @@
 //! Records of both engines made by hand: any value in any field.
 
 use super::calls::any_codes;
-use super::Random;
+use super::{refused_window, Random};
 use crate::second::arithmetic::Codes;
 use crate::second::fault::{Fault, Reason};
 use crate::second::letter::{Accessed, Decoded, Executed, Instruction, Machine, Pipeline, Retired};
@@ -9,6 +9,7 @@ use crate::second::machine::{Registers, Status, CYCLE_LIMIT, PLAIN_LIMIT, REGIST
 use crate::second::memory::Memory;
 use crate::second::pipeline::{Kinds, Settings};
 use crate::second::table::{row_of, CALL, CMOV, IADDQ, JXX, MRMOVQ, OPQ, POPQ, PUSHQ, RMMOVQ};
+use crate::second::window::Window;
 use std::fmt::Debug;
 
 /// A record of one of the two engines.
@@ -59,13 +60,14 @@ impl Record for Machine {
     const LOGS: usize = 1;
 
     fn fresh(
-        _: &mut Random,
+        random: &mut Random,
         registers: Registers,
         codes: Codes,
         start: u64,
         size: usize,
     ) -> Machine {
-        Machine::fresh(size as u64, registers, codes, start).expect("a start")
+        let window = window(random, size);
+        Machine::fresh(size as u64, registers, codes, start, window).expect("a start")
     }
 
     fn advance(&mut self, memory: Memory) {
@@ -81,11 +83,14 @@ impl Record for Machine {
             last: value(random, size),
             count: spent(random, PLAIN_LIMIT),
             fault: fault(random, size),
+            window: window(random, size),
         }
     }
 
-    /// Refusal 5 asks nothing of a machine record.
-    fn spoil(&mut self, _: &mut Random, _: usize) {}
+    /// Of a machine record, refusal 5 asks for its window alone.
+    fn spoil(&mut self, random: &mut Random, size: usize) {
+        self.window = Some(refused_window(random, size));
+    }
 
     fn spent(&self) -> u64 {
         self.count
@@ -123,7 +128,7 @@ impl Record for Pipeline {
         start: u64,
         size: usize,
     ) -> Pipeline {
-        let settings = settings(random);
+        let settings = settings(random, size);
         Pipeline::fresh(size as u64, registers, codes, start, settings).expect("a start")
     }
 
@@ -145,6 +150,7 @@ impl Record for Pipeline {
                 load_use: count(random, cycles),
                 mispredict: count(random, cycles),
                 returns: count(random, cycles),
+                patch: count(random, cycles),
             },
             fault: fault(random, size),
             ..Record::fresh(random, Registers::default(), Codes::default(), 0, size)
@@ -158,6 +164,9 @@ impl Record for Pipeline {
         if random.chance(1, 8) {
             hold_load_and_store(&mut record, random, size);
         }
+        if random.chance(1, 8) {
+            hold_store_at_window(&mut record, random, size);
+        }
         record
     }
 
@@ -165,12 +174,14 @@ impl Record for Pipeline {
         for _ in 0..random.pick(&[1, 1, 1, 3]) {
             let more = self.cycles.saturating_add(1 + random.below(3));
             let count = random.pick(&[more, u64::MAX]);
-            match random.below(14) {
+            match random.below(17) {
                 0 => self.retired = count,
                 1 => self.kinds.load_use = count,
                 2 => self.kinds.mispredict = count,
                 3 => self.kinds.returns = count,
                 4 | 5 => self.settings.rule = refused_rule(random),
+                6 => self.kinds.patch = count,
+                7 | 8 => self.settings.window = Some(refused_window(random, size)),
                 _ => {
                     let instruction = refused_instruction(random, size);
                     let place = random.below(5);
@@ -206,11 +217,54 @@ impl Record for Pipeline {
 }
 
 /// Settings that are not refused.
-pub(super) fn settings(random: &mut Random) -> Settings {
+pub(super) fn settings(random: &mut Random, size: usize) -> Settings {
     Settings {
         rule: random.below(u64::from(Settings::LAST_RULE) + 1) as u8,
         late: random.chance(1, 2),
+        window: window(random, size),
     }
+}
+
+/// No window, or any that is not refused: all of memory, a part of it, none.
+fn window(random: &mut Random, size: usize) -> Option<Window> {
+    if random.chance(1, 2) {
+        return None;
+    }
+    let size = size as u64;
+    let (one, other) = (random.below(size + 1), random.below(size + 1));
+    let (first, end) = random.pick(&[
+        (0, size),
+        (0, one),
+        (0, one),
+        (one, one),
+        (one.min(other), one.max(other)),
+    ]);
+    Some(Window { first, end })
+}
+
+/// Puts a store or a call into M that writes near an end of the window, and
+/// anything that gives way to it into E and D.
+fn hold_store_at_window(record: &mut Pipeline, random: &mut Random, size: usize) {
+    let store = Instruction {
+        code: random.pick(&[RMMOVQ, PUSHQ, CALL]),
+        status: status(random, 15, 16),
+        ..instruction(random, size)
+    };
+    hold(record, 2, store, random, size);
+    let room = (size as u64).saturating_sub(7).max(1);
+    let (at, size) = (random.below(room), size as u64);
+    if let Some(m) = &mut record.m {
+        m.result = at;
+    }
+    let moved = random.below(9);
+    let (first, end) = random.pick(&[
+        (0, at + moved),
+        (at + moved, size),
+        (at + moved, at + moved),
+        (at + 2, at + 5),
+    ]);
+    let (first, end) = (first.min(size), end.min(size));
+    record.settings.window = Some(Window { first, end });
 }
 
 /// A rule number that is refused.
@@ -390,8 +444,15 @@ fn hold(
                 holds,
                 word: other,
                 status: status(random, 5, 6),
+                patched: random.chance(1, 4),
             })
         }
-        _ => record.kept = Some(Retired { instruction, holds }),
+        _ => {
+            record.kept = Some(Retired {
+                instruction,
+                holds,
+                patched: random.chance(1, 4),
+            })
+        }
     }
 }

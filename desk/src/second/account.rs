@@ -10,6 +10,7 @@ use super::memory::Memory;
 use super::pipeline::Settings;
 use super::plain::Plain;
 use super::table::{row_of, CALL, CMOV, IADDQ, JXX, MRMOVQ, OPQ, POPQ, PUSHQ, RET, RMMOVQ};
+use super::window::Window;
 use std::ops::Range;
 
 /// Why an instruction is charged.
@@ -18,6 +19,7 @@ pub enum Kind {
     LoadUse,
     Mispredict,
     Return,
+    Patch,
 }
 
 impl Kind {
@@ -26,7 +28,7 @@ impl Kind {
         match self {
             Kind::LoadUse => 1,
             Kind::Mispredict => 2,
-            Kind::Return => 3,
+            Kind::Return | Kind::Patch => 3,
         }
     }
 }
@@ -45,6 +47,8 @@ pub struct Performed {
     pub own_bytes: Range<u64>,
     /// The bytes it wrote; a stopping instruction writes none.
     pub written: Range<u64>,
+    /// The status that it left.
+    pub status: Status,
     /// What it charges its follower for, as far as that is its own doing.
     leaves: Leaves,
 }
@@ -56,6 +60,7 @@ enum Leaves {
     Loaded(u8),
     WronglyGuessed,
     Returned,
+    Patched,
 }
 
 /// The account of a plain history.
@@ -70,8 +75,8 @@ pub struct Account {
 
 impl Account {
     /// The account of at most so many instructions from a record, for a
-    /// pipeline with settings that are not refused; memory and record are left
-    /// as the last of them left them.
+    /// pipeline with settings that are not refused, of which the record has the
+    /// window; memory and record are left as the last of them left them.
     pub fn of<'a>(
         machine: &mut Plain,
         memory: impl Into<Memory<'a>>,
@@ -94,8 +99,8 @@ impl Account {
 
     fn perform(&self, machine: &mut Plain, memory: &mut Memory) -> Performed {
         let before = *machine;
-        let own_bytes = own_bytes(memory, before.address);
-        let parts = fetch(memory, before.address).ok();
+        let own_bytes = own_bytes(memory, before.window, before.address);
+        let parts = fetch(memory, before.window, before.address).ok();
         machine.perform(memory);
         let good = parts.filter(|_| machine.status == Status::Aok);
         let previous = self.performed.last();
@@ -108,6 +113,7 @@ impl Account {
             due: earlier + 1 + charge.map_or(0, Kind::cycles),
             own_bytes,
             written: good.map_or(0..0, |parts| written(&before, &parts)),
+            status: machine.status,
             leaves: good.map_or(Leaves::Nothing, |parts| self.leaves(&before, &parts)),
         }
     }
@@ -122,6 +128,7 @@ impl Account {
             }
             Leaves::WronglyGuessed => Some(Kind::Mispredict),
             Leaves::Returned => Some(Kind::Return),
+            Leaves::Patched => Some(Kind::Patch),
         }
     }
 
@@ -137,8 +144,17 @@ impl Account {
                 }
             }
             RET => Leaves::Returned,
+            RMMOVQ | PUSHQ | CALL if self.patches(before, parts) => Leaves::Patched,
             _ => Leaves::Nothing,
         }
+    }
+
+    /// Whether a store that was performed wrote any byte of the window.
+    fn patches(&self, before: &Plain, store: &Parts) -> bool {
+        let written = written(before, store);
+        let within = |window: Window, byte| window.first <= byte && byte < window.end;
+        let touches = |window| written.clone().any(|byte| within(window, byte));
+        self.settings.window.is_some_and(touches)
     }
 
     /// Whether the rule guesses a conditional jump taken.
@@ -164,12 +180,15 @@ impl Account {
     /// How far the premise reaches: the largest number K such that no store
     /// among the first K instructions writes a byte of any of the next three
     /// performed. Where the history was cut short, the last three of it cannot
-    /// be judged.
+    /// be judged. With a window there is no premise (#113).
     pub fn premise_reach(&self) -> usize {
         let known = match self.stopped {
             true => self.performed.len(),
             false => self.performed.len().saturating_sub(3),
         };
+        if self.settings.window.is_some() {
+            return known;
+        }
         (0..known)
             .find(|place| self.writes_ahead(*place))
             .unwrap_or(known)

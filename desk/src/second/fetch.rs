@@ -4,7 +4,9 @@ use super::fault::{Reason, Stop};
 use super::machine::NONE;
 use super::memory::Memory;
 use super::table::{row_of, RegisterByte, Row, HALT};
+use super::window::Window;
 use super::word;
+use std::ops::Range;
 
 /// The bytes of an instruction taken apart; a constant it lacks is 0, and
 /// registers it lacks are 15.
@@ -19,8 +21,8 @@ pub struct Parts {
 
 /// The instruction at an address, or what the first check that fails says.
 #[inline(always)]
-pub fn fetch(memory: &Memory, address: u64) -> Result<Parts, Stop> {
-    let bytes = memory.part(address);
+pub fn fetch(memory: &Memory, window: Option<Window>, address: u64) -> Result<Parts, Stop> {
+    let bytes = memory.code(address, window);
     let Some(first) = bytes.first() else {
         return Err(Stop::missing(Reason::FirstMissing));
     };
@@ -78,10 +80,10 @@ fn constant(bytes: &[u8], length: u8) -> u64 {
 }
 
 /// An instruction's bytes: its table length from its address, cut at the end of
-/// its part of memory. Whatever fetch looked at, the first byte alone says the
-/// length.
-pub fn own_bytes(memory: &Memory, address: u64) -> std::ops::Range<u64> {
-    let bytes = memory.part(address);
+/// its part of memory and of the window. Whatever fetch looked at, the first
+/// byte alone says the length.
+pub fn own_bytes(memory: &Memory, window: Option<Window>, address: u64) -> Range<u64> {
+    let bytes = memory.code(address, window);
     let Some(first) = bytes.first() else {
         return 0..0;
     };

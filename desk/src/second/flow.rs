@@ -7,6 +7,7 @@ use super::memory::{Extent, Memory};
 use super::pipeline::{Kinds, Pipeline, Settings};
 use super::stages::{fetch_stage, Accessing, Decoding, Executing, Instruction, Writing};
 use super::table::{CALL, CMOV, IADDQ, IRMOVQ, JXX, MRMOVQ, OPQ, POPQ, PUSHQ, RET, RMMOVQ};
+use super::window::Window;
 
 /// The working copy of a pipelined record, for the length of a run. A stage
 /// without an instruction holds a bubble that looks like a nop; the registers
@@ -24,7 +25,8 @@ pub(super) struct Flow {
     pub(super) cycles: u64,
     kinds: Kinds,
     kept: Instruction,
-    settings: Settings,
+    rule: u8,
+    late: bool,
 }
 
 impl Flow {
@@ -43,13 +45,19 @@ impl Flow {
             cycles: record.cycles,
             kinds: record.kinds,
             kept: record.kept.unwrap_or(Instruction::BUBBLE),
-            settings: record.settings,
+            rule: record.settings.rule,
+            late: record.settings.late,
         }
     }
 
-    /// The record of a working copy, its registers and what the record says of a
-    /// failed fetch.
-    pub(super) fn record(self, registers: Registers, fault: Fault) -> Pipeline {
+    /// The record of a working copy, with its registers, its window and what it
+    /// says of a failed fetch.
+    pub(super) fn record(
+        self,
+        registers: Registers,
+        window: Option<Window>,
+        fault: Fault,
+    ) -> Pipeline {
         Pipeline {
             predicted: self.predicted,
             d: self.d.instruction.is_present().then_some(self.d),
@@ -64,24 +72,33 @@ impl Flow {
             cycles: self.cycles,
             kinds: self.kinds,
             kept: self.kept.is_present().then_some(self.kept),
-            settings: self.settings,
+            settings: Settings {
+                rule: self.rule,
+                late: self.late,
+                window,
+            },
             fault,
         }
     }
 
     /// What the instruction that has stopped the machine says of its fetch; it
     /// still stands in W.
-    pub(super) fn fault(&self, memory: Extent) -> Fault {
+    pub(super) fn fault(&self, memory: Extent, window: Option<Window>) -> Fault {
         let (reason, at) = (self.w.instruction.reason(), self.w.instruction.address());
         Fault {
             reason,
-            address: reason.address(at, memory.code_end(at)),
+            address: reason.address(at, memory.code_end(at, window)),
         }
     }
 
     /// One clock of a running machine. Says whether an instruction retired.
     #[inline(always)]
-    pub(super) fn advance(&mut self, registers: &mut Registers, memory: &mut Memory) -> bool {
+    pub(super) fn advance(
+        &mut self,
+        registers: &mut Registers,
+        memory: &mut Memory,
+        window: Option<Window>,
+    ) -> bool {
         self.cycles += 1;
         let fetch_address = self.fetch_address();
         let retired = self.retire(registers);
@@ -97,10 +114,14 @@ impl Flow {
             into_d = self.d;
         } else if !returning {
             // Before the access: memory is read before the clock's write.
-            (into_d, self.predicted) = fetch_stage(memory, fetch_address, self.settings.rule);
+            (into_d, self.predicted) = fetch_stage(memory, window, fetch_address, self.rule);
         }
-        let accessed = access(memory, &self.m);
-        hand_over(self.settings.late, &accessed, &mut executed);
+        let accessed = access(memory, window, &self.m);
+        if window.is_some() && accessed.instruction.has_patched() {
+            self.restart(accessed);
+            return retired;
+        }
+        hand_over(self.late, &accessed, &mut executed);
         if load_use || mispredicted {
             self.e = Executing::BUBBLE;
         } else {
@@ -119,6 +140,21 @@ impl Flow {
             self.codes = codes;
         }
         retired
+    }
+
+    /// Behind a store in M that wrote into the window: everything younger is
+    /// cancelled, and its codes are not set; fetch goes on behind the store, or
+    /// at a call's target.
+    #[inline(always)]
+    fn restart(&mut self, store: Writing) {
+        self.predicted = match store.instruction.code() {
+            CALL => self.m.a,
+            _ => store.instruction.next(),
+        };
+        self.d = Decoding::BUBBLE;
+        self.e = Executing::BUBBLE;
+        self.m = Accessing::BUBBLE;
+        self.w = store;
     }
 
     /// Where fetch reads: the way back from a wrong guess, then the word a ret
@@ -163,12 +199,14 @@ impl Flow {
     #[inline(always)]
     fn charge(&mut self, retiring: &Instruction) {
         let kept = &self.kept;
-        if retiring.waits_for(kept.loaded_target(), self.settings.late) {
+        if retiring.waits_for(kept.loaded_target(), self.late) {
             self.kinds.load_use += 1;
         } else if kept.is_guessed_wrongly() && kept.function() != 0 {
             self.kinds.mispredict += 2;
         } else if kept.code() == RET {
             self.kinds.returns += 3;
+        } else if kept.has_patched() {
+            self.kinds.patch += 3;
         }
     }
 
@@ -176,7 +214,7 @@ impl Flow {
     #[inline(always)]
     fn load_use(&self) -> bool {
         let loaded = self.e.instruction.loaded_target();
-        self.d.instruction.waits_for(loaded, self.settings.late)
+        self.d.instruction.waits_for(loaded, self.late)
     }
 
     /// A ret in D, E or M.
@@ -223,7 +261,7 @@ fn forward(source: u8, executed: &Accessing, accessed: &Writing, registers: &Reg
 #[inline(always)]
 fn execute(stage: &Executing, codes: Codes) -> (Accessing, Codes) {
     let mut instruction = stage.instruction;
-    let (a, b, constant) = (stage.a, stage.b, stage.constant);
+    let (mut a, b, constant) = (stage.a, stage.b, stage.constant);
     let mut codes_after = codes;
     let decided = || {
         stage
@@ -247,7 +285,11 @@ fn execute(stage: &Executing, codes: Codes) -> (Accessing, Codes) {
         RMMOVQ | MRMOVQ => b.wrapping_add(constant),
         OPQ => setting(operate(instruction.function(), a, b)),
         IADDQ => setting(operate(ADD, constant, b)),
-        CALL | PUSHQ => b.wrapping_sub(8),
+        CALL => {
+            a = constant;
+            b.wrapping_sub(8)
+        }
+        PUSHQ => b.wrapping_sub(8),
         RET | POPQ => b.wrapping_add(8),
         _ => 0,
     };
@@ -270,11 +312,12 @@ fn hand_over(late: bool, accessed: &Writing, executed: &mut Accessing) {
 }
 
 /// The work of M. A load outside memory reads 0, a store outside its writable
-/// part writes nothing, and either makes the status ADR.
+/// part writes nothing, and either makes the status ADR. A store that writes
+/// into the window is marked.
 #[inline(always)]
-fn access(memory: &mut Memory, stage: &Accessing) -> Writing {
+fn access(memory: &mut Memory, window: Option<Window>, stage: &Accessing) -> Writing {
     let Accessing {
-        instruction,
+        mut instruction,
         result,
         a,
     } = *stage;
@@ -285,11 +328,14 @@ fn access(memory: &mut Memory, stage: &Accessing) -> Writing {
         POPQ | RET => memory.load(a),
         _ => Some(0),
     };
+    let patches = |window: Window| window.is_written_at(result) && instruction.writes();
+    if done.is_none() {
+        instruction = instruction.outside();
+    } else if window.is_some_and(patches) {
+        instruction = instruction.patched();
+    }
     Writing {
-        instruction: match done {
-            Some(_) => instruction,
-            None => instruction.outside(),
-        },
+        instruction,
         result,
         loaded: done.unwrap_or(0),
     }

@@ -2,6 +2,7 @@
 //! and writable bytes from the first address after them (#110). One memory is
 //! the case of no program bytes.
 
+use super::window::Window;
 use super::word;
 
 /// The two parts, lent for the length of a call.
@@ -58,6 +59,20 @@ impl<'a> Memory<'a> {
         &self.writable[behind as usize..]
     }
 
+    /// The bytes that an instruction at an address may have: those of its part,
+    /// as far as they are in the window (#113).
+    #[inline(always)]
+    pub fn code(&self, address: u64, window: Option<Window>) -> &[u8] {
+        let bytes = self.part(address);
+        match window {
+            None => bytes,
+            Some(window) => {
+                let length = window.length_from(address).min(bytes.len() as u64);
+                &bytes[..length as usize]
+            }
+        }
+    }
+
     /// The word at an address, or none when it is not inside one of the parts.
     #[inline(always)]
     pub fn load(&self, address: u64) -> Option<u64> {
@@ -79,11 +94,17 @@ impl<'a> Memory<'a> {
 
 impl Extent {
     /// Where the bytes end that an instruction at this address may have: at the
-    /// seam before it, and at N behind it.
-    pub fn code_end(self, address: u64) -> u64 {
-        match address < self.seam {
+    /// seam before it, and at N behind it, and not behind the window's end.
+    /// Before the window it has none.
+    pub fn code_end(self, address: u64, window: Option<Window>) -> u64 {
+        let end = match address < self.seam {
             true => self.seam,
             false => self.size,
+        };
+        match window {
+            None => end,
+            Some(window) if address < window.first => address,
+            Some(window) => end.min(window.end),
         }
     }
 }

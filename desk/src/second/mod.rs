@@ -25,6 +25,7 @@ pub mod replay;
 pub mod report;
 pub mod stages;
 pub mod table;
+pub mod window;
 pub mod word;
 pub mod writing;
 

@@ -8,6 +8,7 @@ use super::machine::{
 };
 use super::memory::Memory;
 use super::stages::{Accessing, Decoding, Executing, Instruction, Writing};
+use super::window::{self, Window};
 
 /// The cycle counts kept by kind.
 #[derive(Clone, Copy, Debug, Default, PartialEq, Eq)]
@@ -15,6 +16,8 @@ pub struct Kinds {
     pub load_use: u64,
     pub mispredict: u64,
     pub returns: u64,
+    /// Behind stores into the window (#113).
+    pub patch: u64,
 }
 
 /// The settings that a start record carries; the default is document 01's.
@@ -26,18 +29,22 @@ pub struct Settings {
     /// Late store data (#106): rmmovq and pushq wait for a load of their address
     /// source alone, as a word loaded in M goes straight to a store in E.
     pub late: bool,
+    /// Where instructions are fetched from, if not from all of memory (#113); a
+    /// store into it cancels what is younger.
+    pub window: Option<Window>,
 }
 
 impl Settings {
     /// The last of the three rules.
     pub const LAST_RULE: u8 = 2;
 
-    /// Refusal 5, of the settings: a rule number other than the three.
-    pub fn check(self) -> Result<(), Refusal> {
+    /// Refusal 5, of the settings: a rule number other than the three, or a
+    /// window that does not lie in a memory of this size.
+    pub fn check(self, size: u64) -> Result<(), Refusal> {
         if self.rule > Settings::LAST_RULE {
             return Err(Refusal::Record);
         }
-        Ok(())
+        window::check(self.window, size)
     }
 }
 
@@ -83,7 +90,7 @@ impl Pipeline {
         settings: Settings,
     ) -> Result<Pipeline, Refusal> {
         check_memory(size)?;
-        settings.check()?;
+        settings.check(size)?;
         check_start(size, start)?;
         Ok(Pipeline {
             predicted: start,
@@ -124,7 +131,7 @@ impl Pipeline {
             check_log(logs.addresses, budget)?;
             check_log(logs.cycles, budget)?;
         }
-        self.check_record()?;
+        self.check_record(memory.extent().size)?;
         match logs {
             Some(logs) => self.run_logged(memory, budget, logs),
             None => self.run_unlogged(memory, budget),
@@ -134,39 +141,47 @@ impl Pipeline {
 
     /// The loop of a run, on a working copy of the record.
     #[inline(always)]
-    fn run_loop(&mut self, mut memory: Memory, budget: u64, mut retired: impl FnMut(u64, u64)) {
+    fn run_loop(
+        &mut self,
+        (mut memory, window): (Memory, Option<Window>),
+        budget: u64,
+        mut retired: impl FnMut(u64, u64),
+    ) {
         let mut flow = Flow::of(self);
         let (mut registers, mut fault) = (self.registers, self.fault);
         let mut left = budget;
         let running = self.status == Status::Aok;
         while left > 0 && flow.status == Status::Aok {
-            if flow.advance(&mut registers, &mut memory) {
+            if flow.advance(&mut registers, &mut memory, window) {
                 retired(flow.last, flow.cycles);
             }
             left -= 1;
         }
         if running && flow.status != Status::Aok {
-            fault = flow.fault(memory.extent());
+            fault = flow.fault(memory.extent(), window);
         }
-        *self = flow.record(registers, fault);
+        *self = flow.record(registers, window, fault);
     }
 
     fn run_unlogged(&mut self, memory: Memory, budget: u64) {
-        match memory.program.is_empty() {
+        let window = self.settings.window;
+        match memory.program.is_empty() && window.is_none() {
             true => self.run_one(memory.writable, budget),
-            false => self.run_loop(memory, budget, |_, _| {}),
+            false => self.run_loop((memory, window), budget, |_, _| {}),
         }
     }
 
-    /// One memory has a loop of its own, in which no seam is looked for.
+    /// One memory without a window has a loop of its own, in which neither seam
+    /// nor window is looked for.
     #[inline(never)]
     fn run_one(&mut self, memory: &mut [u8], budget: u64) {
-        self.run_loop(Memory::from(memory), budget, |_, _| {});
+        self.run_loop((Memory::from(memory), None), budget, |_, _| {});
     }
 
     fn run_logged(&mut self, memory: Memory, budget: u64, logs: Logs) {
         let mut place = 0;
-        self.run_loop(memory, budget, |address, cycle| {
+        let lent = (memory, self.settings.window);
+        self.run_loop(lent, budget, |address, cycle| {
             logs.addresses[place] = address;
             logs.cycles[place] = cycle;
             place += 1;
@@ -174,7 +189,7 @@ impl Pipeline {
     }
 
     /// Refusal 5, on stopped machines too.
-    pub fn check_record(&self) -> Result<(), Refusal> {
+    pub fn check_record(&self, size: u64) -> Result<(), Refusal> {
         let held = [
             self.d.map(|stage| stage.instruction),
             self.e.map(|stage| stage.instruction),
@@ -187,11 +202,12 @@ impl Pipeline {
             .retired
             .max(kinds.load_use)
             .max(kinds.mispredict)
-            .max(kinds.returns);
+            .max(kinds.returns)
+            .max(kinds.patch);
         let instructions_known = held.iter().flatten().all(Instruction::is_known);
         if !instructions_known || highest > self.cycles {
             return Err(Refusal::Record);
         }
-        self.settings.check()
+        self.settings.check(size)
     }
 }

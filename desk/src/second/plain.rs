@@ -9,6 +9,7 @@ use super::machine::{
 };
 use super::memory::Memory;
 use super::table::{row_of, CALL, CMOV, IADDQ, IRMOVQ, JXX, MRMOVQ, OPQ, POPQ, PUSHQ, RET, RMMOVQ};
+use super::window::{self, Window};
 
 /// The plain machine's record; its memory is lent at each call.
 #[derive(Clone, Copy, Debug, PartialEq, Eq)]
@@ -24,6 +25,8 @@ pub struct Plain {
     pub count: u64,
     /// Why the fetch that stopped it failed (#107).
     pub fault: Fault,
+    /// Where instructions are fetched from, if not from all of memory (#113).
+    pub window: Option<Window>,
 }
 
 impl Plain {
@@ -33,8 +36,10 @@ impl Plain {
         registers: Registers,
         codes: Codes,
         start: u64,
+        window: Option<Window>,
     ) -> Result<Plain, Refusal> {
         check_memory(size)?;
+        window::check(window, size)?;
         check_start(size, start)?;
         Ok(Plain {
             registers,
@@ -44,6 +49,7 @@ impl Plain {
             last: start,
             count: 0,
             fault: Fault::default(),
+            window,
         })
     }
 
@@ -66,6 +72,7 @@ impl Plain {
         if let Some(log) = &log {
             check_log(log, budget)?;
         }
+        window::check(self.window, memory.extent().size)?;
         for place in 0..budget as usize {
             if self.status != Status::Aok {
                 break;
@@ -81,13 +88,14 @@ impl Plain {
     /// Performs one instruction on a running machine. A stopping one changes
     /// no register, byte or code, and leaves the program address.
     pub fn perform(&mut self, memory: &mut Memory) {
-        let outcome = fetch(memory, self.address).and_then(|parts| self.carry_out(memory, &parts));
+        let fetched = fetch(memory, self.window, self.address);
+        let outcome = fetched.and_then(|parts| self.carry_out(memory, &parts));
         self.count += 1;
         self.last = self.address;
         match outcome {
             Ok(next) => self.address = next,
             Err(stop) => {
-                let end = memory.extent().code_end(self.address);
+                let end = memory.extent().code_end(self.address, self.window);
                 self.status = stop.status;
                 self.fault = Fault {
                     reason: stop.reason,

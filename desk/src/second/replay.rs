@@ -5,6 +5,7 @@ use super::machine::{check_budget, check_memory, CYCLE_LIMIT};
 use super::machine::{Refusal, Registers, REGISTER_COUNT};
 use super::memory::Memory;
 use super::pipeline::{Pipeline, Settings};
+use super::window::Window;
 
 /// Bytes in the register block: fifteen words.
 pub const REGISTER_BYTES: usize = 8 * REGISTER_COUNT;
@@ -27,16 +28,21 @@ pub struct Chosen {
 }
 
 impl Chosen {
-    /// The settings that the numbers mean; others are refusal 5. No core has a
-    /// window so far.
+    /// The settings that the numbers mean; others are refusal 5. Without a
+    /// window its two addresses are not looked at.
     fn settings(self) -> Result<Settings, Refusal> {
         let rule = u8::try_from(self.rule).map_err(|_| Refusal::Record)?;
-        if self.late > 1 || self.windowed > 0 {
+        if self.late > 1 || self.windowed > 1 {
             return Err(Refusal::Record);
         }
+        let window = Window {
+            first: self.first,
+            end: self.end,
+        };
         Ok(Settings {
             rule,
             late: self.late == 1,
+            window: (self.windowed == 1).then_some(window),
         })
     }
 }
@@ -176,7 +182,7 @@ fn full_words(machine: &Pipeline) -> [u64; 11] {
         kinds.load_use,
         kinds.mispredict,
         kinds.returns,
-        0,
+        kinds.patch,
         machine.fault.reason.number(),
         machine.fault.address,
     ]

@@ -5,6 +5,7 @@ use super::fetch::fetch;
 use super::machine::{Status, NONE};
 use super::memory::Memory;
 use super::table::{roles, row_of, CALL, CMOV, IADDQ, JXX, NOP, OPQ, PUSHQ, RMMOVQ};
+use super::window::Window;
 use std::fmt;
 
 /// An instruction with its own address, as the stages carry it, or a bubble.
@@ -29,6 +30,8 @@ const STATUS: u32 = 4;
 const CODE: u32 = 8;
 const FUNCTION: u32 = 16;
 const REASON: u32 = 24;
+/// Whether it wrote into the window.
+const PATCHED: u32 = 28;
 const SOURCE_A: u32 = 32;
 const SOURCE_B: u32 = 40;
 const RESULT_TARGET: u32 = 48;
@@ -72,7 +75,7 @@ impl Instruction {
     /// The instruction with the reason why its fetch failed (#107).
     #[inline(always)]
     pub fn failed(mut self, reason: Reason) -> Instruction {
-        self.word = self.word & !(0xff << REASON) | reason.number() << REASON;
+        self.word = self.word & !(15 << REASON) | reason.number() << REASON;
         self
     }
 
@@ -109,6 +112,19 @@ impl Instruction {
     pub fn outside(mut self) -> Instruction {
         self.word = self.word & !(15 << STATUS) | Status::Adr.number() << STATUS;
         self
+    }
+
+    /// The instruction after a store that wrote into the window (#113).
+    #[inline(always)]
+    pub fn patched(mut self) -> Instruction {
+        self.word |= 1 << PATCHED;
+        self
+    }
+
+    /// Whether it has written into the window.
+    #[inline(always)]
+    pub fn has_patched(&self) -> bool {
+        self.word & 1 << PATCHED != 0
     }
 
     /// Whether this is an instruction and not a bubble.
@@ -156,7 +172,7 @@ impl Instruction {
 
     /// Why its fetch failed, if it did.
     pub fn reason(&self) -> Reason {
-        Reason::ALL[usize::from(self.byte(REASON))]
+        Reason::ALL[usize::from(self.byte(REASON) & 15)]
     }
 
     #[inline(always)]
@@ -227,6 +243,12 @@ impl Instruction {
         matches!(self.code(), RMMOVQ | PUSHQ)
     }
 
+    /// Whether this writes a word into memory, if the word is inside, and goes on.
+    #[inline(always)]
+    pub(super) fn writes(&self) -> bool {
+        matches!(self.code(), RMMOVQ | PUSHQ | CALL) && !self.is_bad()
+    }
+
     /// Whether a record may hold this: registers up to 15, a code that has
     /// functions in the table; the function is looked at for moves, jumps and
     /// OPq alone.
@@ -259,6 +281,7 @@ impl fmt::Debug for Instruction {
             .field("reason", &self.reason())
             .field("condition", &self.condition())
             .field("guess", &self.guess())
+            .field("patched", &self.has_patched())
             .finish()
     }
 }
@@ -280,8 +303,8 @@ pub struct Executing {
 }
 
 /// What M holds: what execute made of the instruction. `a` is the word that a
-/// store writes, or the address that popq and ret read from; a jump hands on its
-/// C as the result, which it has no target for.
+/// store writes, or the address that popq and ret read from, or the C of a call;
+/// a jump hands on its C as the result, which it has no target for.
 #[derive(Clone, Copy, Debug, PartialEq, Eq)]
 pub struct Accessing {
     pub instruction: Instruction,
@@ -348,8 +371,13 @@ impl Writing {
 /// with a bad status travels as a nop with that status, and predicts its own
 /// address.
 #[inline(always)]
-pub(super) fn fetch_stage(memory: &Memory, address: u64, rule: u8) -> (Decoding, u64) {
-    match fetch(memory, address) {
+pub(super) fn fetch_stage(
+    memory: &Memory,
+    window: Option<Window>,
+    address: u64,
+    rule: u8,
+) -> (Decoding, u64) {
+    match fetch(memory, window, address) {
         Ok(parts) => {
             let (code, constant) = (parts.code, parts.constant);
             let named = (parts.ra, parts.rb);

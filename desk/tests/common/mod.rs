@@ -6,6 +6,7 @@ pub mod reasons;
 pub mod seams;
 pub mod settings;
 pub mod tally;
+pub mod windows;
 
 use desk::second::arithmetic::Codes;
 use desk::second::machine::{Registers, RSP};
@@ -28,7 +29,7 @@ pub fn registers(given: &[(u8, u64)]) -> Registers {
 
 /// A fresh start of the plain engine, inside its memory.
 pub fn plain(memory: &[u8], given: Registers, codes: Codes, start: u64) -> Plain {
-    Plain::fresh(memory.len() as u64, given, codes, start).expect("a start")
+    Plain::fresh(memory.len() as u64, given, codes, start, None).expect("a start")
 }
 
 /// A fresh start of the pipelined engine, inside its memory, with document 01's

@@ -8,7 +8,7 @@ use desk::second::machine::{Refusal, Status, NONE, RSP};
 use desk::second::pipeline::Settings;
 use desk::second::table::{CALL, MRMOVQ, POPQ, PUSHQ, RMMOVQ};
 
-/// Every setting that is not refused.
+/// Every setting that is not refused, without a window.
 pub const ALL: [Settings; 6] = [
     settings(0, false),
     settings(1, false),
@@ -19,7 +19,11 @@ pub const ALL: [Settings; 6] = [
 ];
 
 const fn settings(rule: u8, late: bool) -> Settings {
-    Settings { rule, late }
+    Settings {
+        rule,
+        late,
+        window: None,
+    }
 }
 
 const RULES: [&str; 7] = ["0", "1", "2", "3", "4", "255", "another"];

@@ -7,7 +7,7 @@ use std::collections::BTreeMap;
 pub type Classes = [(&'static str, &'static [&'static str])];
 
 /// Counts by heading and class.
-#[derive(Default)]
+#[derive(Debug, Default)]
 pub struct Tally(BTreeMap<(&'static str, &'static str), u64>);
 
 impl Tally {

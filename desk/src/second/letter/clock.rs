@@ -7,6 +7,7 @@ use crate::second::arithmetic::Codes;
 use crate::second::machine::{Status, NONE};
 use crate::second::memory::{Extent, Memory};
 use crate::second::table::{CALL, JXX};
+use crate::second::window::Window;
 
 impl Pipeline {
     /// One clock; on a stopped machine it changes nothing.
@@ -21,8 +22,9 @@ impl Pipeline {
             return;
         }
         // Memory is read before the clock's write: fetch, load, then store.
-        let fetched = fetch(memory, before.fetch_address());
-        self.w = before.m.map(|m| m.accessed(memory));
+        let window = self.settings.window;
+        let fetched = fetch(memory, window, before.fetch_address());
+        self.w = before.m.map(|m| m.accessed(memory, window));
         if let Some(m) = before.m {
             m.access().store(memory);
         }
@@ -55,6 +57,21 @@ impl Pipeline {
         if before.bad_in_m(memory) {
             (self.m, self.codes) = (None, before.codes);
         }
+        if let Some(following) = before.patching(memory) {
+            (self.d, self.e, self.m) = (None, None, None);
+            (self.predicted, self.codes) = (following, before.codes);
+        }
+    }
+
+    /// Where a store in M that writes into the window goes on: at the
+    /// instruction that follows it, for call its target. None, where there is no
+    /// such store.
+    pub fn patching(&self, memory: Extent) -> Option<u64> {
+        let store = self.m.filter(|m| m.patches(memory, self.settings.window))?;
+        match store.instruction.code {
+            CALL => Some(store.instruction.constant),
+            _ => Some(store.instruction.next),
+        }
     }
 
     /// Retires what stands in W, if anything. With a bad status only counts,
@@ -66,7 +83,7 @@ impl Pipeline {
         self.charge(&w.instruction);
         self.status = w.status;
         if w.status != Status::Aok {
-            self.fault = fault_of(&w.instruction, memory);
+            self.fault = fault_of(&w.instruction, memory, self.settings.window);
         } else {
             self.registers
                 .set(w.instruction.result_target(w.holds), w.result);
@@ -74,6 +91,7 @@ impl Pipeline {
             self.kept = Some(Retired {
                 instruction: w.instruction,
                 holds: w.holds,
+                patched: w.patched,
             });
         }
     }
@@ -82,6 +100,10 @@ impl Pipeline {
     fn charge(&mut self, retiring: &Instruction) {
         let Some(kept) = self.kept else { return };
         let before = kept.instruction;
+        if kept.patched {
+            self.kinds.patch += 3;
+            return;
+        }
         if retiring.waits_for(before.loaded_target(), self.settings.late) {
             self.kinds.load_use += 1;
         }
@@ -207,14 +229,25 @@ impl Executed {
         }
     }
 
+    /// Whether it is a store that succeeds and writes any byte of the window.
+    fn patches(&self, memory: Extent, window: Option<Window>) -> bool {
+        let Access::Store { address, .. } = self.access() else {
+            return false;
+        };
+        let within = |at| window.is_some_and(|window| (window.first..window.end).contains(&at));
+        let written = |behind| address.checked_add(behind).is_some_and(within);
+        self.status(memory) == Status::Aok && (0..8).any(written)
+    }
+
     /// What it is after its access.
-    fn accessed(&self, memory: &Memory) -> Accessed {
+    fn accessed(&self, memory: &Memory, window: Option<Window>) -> Accessed {
         Accessed {
             instruction: self.instruction,
             result: self.result,
             holds: self.holds,
             word: self.access().loaded(memory),
             status: self.status(memory.extent()),
+            patched: self.patches(memory.extent(), window),
         }
     }
 }

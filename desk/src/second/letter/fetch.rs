@@ -1,12 +1,13 @@
 //! Fetching, check after check.
 
-use super::memory::{byte, place};
+use super::memory::{byte, code_place, Place};
 use super::refusals::{lowest, of_size};
 use super::Instruction;
 use crate::second::fault::{Fault, Reason};
 use crate::second::machine::{Refusal, Status, NONE};
 use crate::second::memory::{Extent, Memory};
 use crate::second::table::NOP;
+use crate::second::window::Window;
 
 /// Length, number of functions, whether rA and whether rB is named, by code.
 const TABLE: [(u64, u8, bool, bool); 16] = [
@@ -32,14 +33,14 @@ const TABLE: [(u64, u8, bool, bool); 16] = [
 /// instruction, and the address of the byte at fault, 0 for none (#107).
 pub type Fetched = (Result<(), Refusal>, Instruction, u64);
 
-/// Fetching as an operation of its own. Refused, it gives what a fetch outside
-/// memory gives.
+/// Fetching as an operation of its own, which knows no window. Refused, it
+/// gives what a fetch outside memory gives.
 pub fn fetch_open<'a>(memory: impl Into<Memory<'a>>, address: u64) -> Fetched {
     let memory = &memory.into();
     let reasons: Vec<Refusal> = of_size(memory.extent().size).into_iter().collect();
     let refused = lowest(&reasons);
     let parsed = match refused {
-        Ok(()) => parse(memory, address),
+        Ok(()) => parse(memory, None, address),
         Err(_) => Err(Bad::missing(Reason::FirstMissing, address)),
     };
     match parsed {
@@ -49,24 +50,37 @@ pub fn fetch_open<'a>(memory: impl Into<Memory<'a>>, address: u64) -> Fetched {
 }
 
 /// The instruction at an address.
-pub(super) fn fetch(memory: &Memory, address: u64) -> Instruction {
-    parse(memory, address).unwrap_or_else(|bad| stopping(address, &bad))
+pub(super) fn fetch(memory: &Memory, window: Option<Window>, address: u64) -> Instruction {
+    parse(memory, window, address).unwrap_or_else(|bad| stopping(address, &bad))
 }
 
 /// What a stopping instruction says of its fetch, when it has stopped the
-/// machine. Its own reason counts, and a hand-made one may have any. The lowest
-/// address that it misses is the seam for one before it, else N.
-pub(super) fn fault_of(instruction: &Instruction, memory: Extent) -> Fault {
+/// machine. Its own reason counts, and a hand-made one may have any.
+pub(super) fn fault_of(instruction: &Instruction, memory: Extent, window: Option<Window>) -> Fault {
     let address = match instruction.reason {
         Reason::None => 0,
         Reason::FirstMissing | Reason::Code | Reason::Function => instruction.address,
-        Reason::LaterMissing if instruction.address < memory.seam => memory.seam,
-        Reason::LaterMissing => memory.size,
+        Reason::LaterMissing => end_of_code(memory, window, instruction.address),
         Reason::Register => instruction.address.wrapping_add(1),
     };
     Fault {
         reason: instruction.reason,
         address,
+    }
+}
+
+/// The lowest address that an instruction misses which starts here and is too
+/// long: the seam for one before it, else N; or the window's end, if that comes
+/// first. One before the window misses its own.
+fn end_of_code(memory: Extent, window: Option<Window>, address: u64) -> u64 {
+    let of_part = match address < memory.seam {
+        true => memory.seam,
+        false => memory.size,
+    };
+    match window {
+        Some(window) if address < window.first => address,
+        Some(window) => of_part.min(window.end),
+        None => of_part,
     }
 }
 
@@ -112,8 +126,9 @@ fn stopping(address: u64, bad: &Bad) -> Instruction {
     }
 }
 
-fn parse(memory: &Memory, address: u64) -> Result<Instruction, Bad> {
-    let first = byte(memory, address).ok_or(Bad::missing(Reason::FirstMissing, address))?;
+fn parse(memory: &Memory, window: Option<Window>, address: u64) -> Result<Instruction, Bad> {
+    let first = code_byte(memory, window, address, address)
+        .ok_or(Bad::missing(Reason::FirstMissing, address))?;
     let (code, function) = (first >> 4, first & 15);
     let (length, functions, names_a, names_b) = TABLE[usize::from(code)];
     if functions == 0 {
@@ -122,7 +137,7 @@ fn parse(memory: &Memory, address: u64) -> Result<Instruction, Bad> {
     if function >= functions {
         return Err(Bad::unknown(Reason::Function, address));
     }
-    let later = later_bytes(memory, address, length)?;
+    let later = later_bytes(memory, window, address, length)?;
     // Only a named register is looked at, and only it may not be 15.
     let named = |names: bool, half: fn(u8) -> u8| match names {
         true if half(later[0]) == NONE => Err(Bad::unknown(Reason::Register, address + 1)),
@@ -160,15 +175,26 @@ fn constant(later: &[u8]) -> u64 {
         .fold(0, |sum, byte| sum << 8 | u64::from(*byte))
 }
 
-/// The bytes after the first, or the lowest address of those missing. One in
-/// another part than the first is missing too: no instruction crosses the seam.
-fn later_bytes(memory: &Memory, address: u64, length: u64) -> Result<Vec<u8>, Bad> {
-    let place_of = |at: u64| place(memory.extent(), u128::from(at));
-    let beside = |at: &u64| place_of(*at) == place_of(address);
+/// The byte at `at` of an instruction that starts at an address. One in another
+/// part than the first is missing: no instruction crosses the seam.
+fn code_byte(memory: &Memory, window: Option<Window>, address: u64, at: u64) -> Option<u8> {
+    let place_of = |at| code_place(memory.extent(), window, at);
+    match place_of(at) {
+        Place::Nowhere => None,
+        place if place == place_of(address) => byte(memory, at),
+        _ => None,
+    }
+}
+
+/// The bytes after the first, or the lowest address of those missing.
+fn later_bytes(
+    memory: &Memory,
+    window: Option<Window>,
+    address: u64,
+    length: u64,
+) -> Result<Vec<u8>, Bad> {
+    let found = |at| code_byte(memory, window, address, at);
     (address + 1..address + length)
-        .map(|at| {
-            let found = Some(at).filter(beside).and_then(|at| byte(memory, at));
-            found.ok_or(Bad::missing(Reason::LaterMissing, at))
-        })
+        .map(|at| found(at).ok_or(Bad::missing(Reason::LaterMissing, at)))
         .collect()
 }

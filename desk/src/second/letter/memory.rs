@@ -1,6 +1,7 @@
 //! What an address reaches, byte for byte.
 
 use crate::second::memory::{Extent, Memory};
+use crate::second::window::Window;
 
 /// Where a byte lies.
 #[derive(Clone, Copy, Debug, PartialEq, Eq)]
@@ -28,6 +29,16 @@ pub fn place_of_word(memory: Extent, address: u64) -> Place {
     let mut others = (1..8).map(|behind| place(memory, u128::from(address) + behind));
     match others.all(|other| other == first) {
         true => first,
+        false => Place::Nowhere,
+    }
+}
+
+/// Where the byte of an instruction lies: one that is not in the window is as
+/// if outside memory (#113).
+pub fn code_place(memory: Extent, window: Option<Window>, address: u64) -> Place {
+    let within = |window: Window| (window.first..window.end).contains(&address);
+    match window.is_none_or(within) {
+        true => place(memory, u128::from(address)),
         false => Place::Nowhere,
     }
 }

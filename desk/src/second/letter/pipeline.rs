@@ -1,6 +1,6 @@
 //! The pipelined engine by the letter: its record and its runs.
 
-use super::refusals::{lowest, of_budget, of_logs, of_size, of_start};
+use super::refusals::{lowest, of_budget, of_logs, of_size, of_start, of_window};
 use super::Instruction;
 use crate::second::arithmetic::Codes;
 use crate::second::fault::Fault;
@@ -33,6 +33,8 @@ pub struct Accessed {
     pub holds: bool,
     pub word: u64,
     pub status: Status,
+    /// Whether it wrote into the window (#113).
+    pub patched: bool,
 }
 
 /// What is kept of the last instruction retired with AOK.
@@ -40,6 +42,7 @@ pub struct Accessed {
 pub struct Retired {
     pub instruction: Instruction,
     pub holds: bool,
+    pub patched: bool,
 }
 
 /// The pipelined machine's record; its memory is lent at each call.
@@ -96,7 +99,11 @@ impl Pipeline {
 
     /// Every refusal that applies to a fresh start.
     pub fn start_reasons(size: u64, start: u64, settings: Settings) -> Vec<Refusal> {
-        let all = [of_size(size), of_settings(settings), of_start(size, start)];
+        let all = [
+            of_size(size),
+            of_settings(settings, size),
+            of_start(size, start),
+        ];
         all.into_iter().flatten().collect()
     }
 
@@ -117,23 +124,24 @@ impl Pipeline {
             of_size(size),
             of_budget(self.cycles, budget, CYCLE_LIMIT),
             of_logs(logs, budget),
-            self.refusal_of_record(),
+            self.refusal_of_record(size),
         ];
         all.into_iter().flatten().collect()
     }
 
-    /// Refusal 5, of the record: its instructions, its counts and its rule.
-    fn refusal_of_record(&self) -> Option<Refusal> {
+    /// Refusal 5, of the record: its instructions, its counts and its settings.
+    fn refusal_of_record(&self, size: u64) -> Option<Refusal> {
         let Kinds {
             load_use,
             mispredict,
             returns,
+            patch,
         } = self.kinds;
-        let counts = [self.retired, load_use, mispredict, returns];
+        let counts = [self.retired, load_use, mispredict, returns, patch];
         let instructions = self.instructions();
         let allowed = instructions.iter().flatten().all(Instruction::is_allowed)
             && counts.iter().all(|count| *count <= self.cycles)
-            && of_settings(self.settings).is_none();
+            && of_settings(self.settings, size).is_none();
         (!allowed).then_some(Refusal::Record)
     }
 
@@ -180,7 +188,8 @@ impl Pipeline {
     }
 }
 
-/// Refusal 5, of a rule number other than the three (#105).
-fn of_settings(settings: Settings) -> Option<Refusal> {
-    (![0, 1, 2].contains(&settings.rule)).then_some(Refusal::Record)
+/// Refusal 5, of a rule number other than the three (#105), or of the window.
+fn of_settings(settings: Settings, size: u64) -> Option<Refusal> {
+    let of_rule = (![0, 1, 2].contains(&settings.rule)).then_some(Refusal::Record);
+    of_rule.or(of_window(settings.window, size))
 }

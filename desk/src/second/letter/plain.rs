@@ -1,6 +1,6 @@
 //! The plain engine by the letter.
 
-use super::refusals::{lowest, of_budget, of_logs, of_size, of_start};
+use super::refusals::{lowest, of_budget, of_logs, of_size, of_start, of_window};
 use super::work::{codes_after, holds, result, Access};
 use super::{fault_of, fetch, Instruction};
 use crate::second::arithmetic::Codes;
@@ -8,6 +8,7 @@ use crate::second::fault::Fault;
 use crate::second::machine::{Refusal, Registers, Status, PLAIN_LIMIT};
 use crate::second::memory::Memory;
 use crate::second::table::{CALL, JXX, RET};
+use crate::second::window::Window;
 
 /// The machine record; its memory is lent at each call.
 #[derive(Clone, Copy, Debug, PartialEq, Eq)]
@@ -19,6 +20,7 @@ pub struct Machine {
     pub last: u64,
     pub count: u64,
     pub fault: Fault,
+    pub window: Option<Window>,
 }
 
 impl Machine {
@@ -28,8 +30,9 @@ impl Machine {
         registers: Registers,
         codes: Codes,
         start: u64,
+        window: Option<Window>,
     ) -> Result<Machine, Refusal> {
-        lowest(&Machine::start_reasons(size, start))?;
+        lowest(&Machine::start_reasons(size, start, window))?;
         Ok(Machine {
             registers,
             codes,
@@ -38,12 +41,17 @@ impl Machine {
             last: start,
             count: 0,
             fault: Fault::default(),
+            window,
         })
     }
 
     /// Every refusal that applies to a fresh start.
-    pub fn start_reasons(size: u64, start: u64) -> Vec<Refusal> {
-        let all = [of_size(size), of_start(size, start)];
+    pub fn start_reasons(size: u64, start: u64, window: Option<Window>) -> Vec<Refusal> {
+        let all = [
+            of_size(size),
+            of_window(window, size),
+            of_start(size, start),
+        ];
         all.into_iter().flatten().collect()
     }
 
@@ -53,6 +61,7 @@ impl Machine {
             of_size(size),
             of_budget(self.count, budget, PLAIN_LIMIT),
             of_logs(logs, budget),
+            of_window(self.window, size),
         ];
         all.into_iter().flatten().collect()
     }
@@ -89,13 +98,13 @@ impl Machine {
         if self.status != Status::Aok {
             return None;
         }
-        let instruction = fetch(memory, self.address);
+        let instruction = fetch(memory, self.window, self.address);
         self.count += 1;
         self.last = self.address;
         self.status = instruction.status;
         match self.status {
             Status::Aok => self.carry_out(&instruction, memory),
-            _ => self.fault = fault_of(&instruction, memory.extent()),
+            _ => self.fault = fault_of(&instruction, memory.extent(), self.window),
         }
         Some(self.last)
     }

@@ -1,6 +1,7 @@
 //! The refusals that both engines share, each by itself.
 
 use crate::second::machine::{Refusal, MEMORY_LIMIT};
+use crate::second::window::Window;
 
 /// Refusal 1, of a memory's size, which is the sum of its parts (#110).
 pub fn of_size(size: u64) -> Option<Refusal> {
@@ -10,6 +11,14 @@ pub fn of_size(size: u64) -> Option<Refusal> {
 /// Refusal 6, of a fresh start's address that is not below N.
 pub fn of_start(size: u64, start: u64) -> Option<Refusal> {
     (start >= size).then_some(Refusal::Start)
+}
+
+/// Refusal 5, of a window whose first address and end are not both at most N,
+/// or whose end is below the first (#113).
+pub fn of_window(window: Option<Window>, size: u64) -> Option<Refusal> {
+    let Window { first, end } = window?;
+    let fits = first <= end && end <= size;
+    (!fits).then_some(Refusal::Record)
 }
 
 /// Refusal 3, of the budget with what was spent before.
