@@ -22,6 +22,7 @@ const CLASSES: &Classes = &[
             "charges",
             "self-modifying",
             "refusals",
+            "patching",
             "large",
         ],
     ),

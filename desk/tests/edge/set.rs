@@ -17,11 +17,22 @@ const CLASSES: &Classes = &[
     ("answer", &NUMBERS),
     ("rule", &["0", "1", "2", "another"]),
     ("late", &["0", "1", "another"]),
-    ("refused for the settings alone", &["yes"]),
+    ("windowed", &["0", "1", "another"]),
+    (
+        "refused for the settings alone",
+        &["rule", "late", "windowed", "window"],
+    ),
     ("status", &STATUSES),
     ("failed fetch", &REASONS),
     ("ADR of an access", &["yes"]),
-    ("charged for", &["load-use", "mispredict", "return"]),
+    (
+        "charged for",
+        &["load-use", "mispredict", "return", "patch"],
+    ),
+    (
+        "missing byte with a window",
+        &["before its first", "at its end", "behind its end"],
+    ),
 ];
 
 /// What a replay with settings leaves of a case.
@@ -68,8 +79,18 @@ fn count(tally: &mut Tally, case: &Case, chosen: Chosen, left: &Left) {
         ["0", "1", "2", "another"][chosen.rule.min(3) as usize],
     );
     tally.count("late", ["0", "1", "another"][chosen.late.min(2) as usize]);
+    tally.count(
+        "windowed",
+        ["0", "1", "another"][chosen.windowed.min(2) as usize],
+    );
     if left.answer == 5 && case.codes <= 7 {
-        tally.count("refused for the settings alone", "yes");
+        let name = match chosen {
+            Chosen { rule: 3.., .. } => "rule",
+            Chosen { late: 2.., .. } => "late",
+            Chosen { windowed: 2.., .. } => "windowed",
+            _ => "window",
+        };
+        tally.count("refused for the settings alone", name);
     }
     if left.answer > 0 {
         return;
@@ -81,7 +102,15 @@ fn count(tally: &mut Tally, case: &Case, chosen: Chosen, left: &Left) {
     if told.outcome.status == 3 && told.reason == 0 {
         tally.count("ADR of an access", "yes");
     }
-    let names = ["load-use", "mispredict", "return"];
+    if let (1, 1 | 4) = (chosen.windowed, told.reason) {
+        let name = match told.fault_address {
+            at if at < chosen.first => "before its first",
+            at if at == chosen.end => "at its end",
+            _ => "behind its end",
+        };
+        tally.count("missing byte with a window", name);
+    }
+    let names = ["load-use", "mispredict", "return", "patch"];
     for (name, _) in names
         .iter()
         .zip(told.kinds)

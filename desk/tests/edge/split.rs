@@ -28,7 +28,11 @@ const CLASSES: &Classes = &[
     ),
     ("status", &STATUSES),
     ("failed fetch", &REASONS),
-    ("later byte missing", &["at the seam", "at N"]),
+    (
+        "later byte missing",
+        &["at the seam", "at N", "at the window's end"],
+    ),
+    ("charged for a patch", &["one memory", "both parts"]),
     (
         "ADR of an access",
         &["in the program's code", "in writable code"],
@@ -72,7 +76,7 @@ fn two_memories_are_the_second_programs_equal() {
             expected.memory[..seam] == case.image[..seam],
             "case {number}"
         );
-        count(&mut tally, &case, seam, &expected);
+        count(&mut tally, &case, seam, chosen, &expected);
     }
     match engine::REPLAY_SPLIT {
         Some(_) => println!("compared {cases} cases"),
@@ -82,7 +86,7 @@ fn two_memories_are_the_second_programs_equal() {
     tally.check(CLASSES, 20);
 }
 
-fn count(tally: &mut Tally, case: &Case, seam: usize, left: &Left) {
+fn count(tally: &mut Tally, case: &Case, seam: usize, chosen: Chosen, left: &Left) {
     let extent = Extent {
         seam: seam as u64,
         size: case.image.len() as u64,
@@ -105,20 +109,26 @@ fn count(tally: &mut Tally, case: &Case, seam: usize, left: &Left) {
         },
     );
     let block: &[u8; FULL_BYTES] = left.result[..].try_into().expect("a full block");
-    count_told(tally, extent, &FullOutcome::read(block));
+    count_told(tally, extent, chosen, &FullOutcome::read(block));
 }
 
-fn count_told(tally: &mut Tally, extent: Extent, told: &FullOutcome) {
+fn count_told(tally: &mut Tally, extent: Extent, chosen: Chosen, told: &FullOutcome) {
     tally.count("status", STATUSES[told.outcome.status as usize - 1]);
+    if told.kinds[3] > 0 {
+        tally.count("charged for a patch", parts_name(extent));
+    }
     tally.count("failed fetch", REASONS[told.reason as usize]);
     match (told.outcome.status, told.reason) {
-        (_, 4) if told.fault_address < extent.size => {
-            assert_eq!(told.fault_address, extent.seam);
-            tally.count("later byte missing", "at the seam");
-        }
         (_, 4) => {
-            assert_eq!(told.fault_address, extent.size);
-            tally.count("later byte missing", "at N");
+            let name = match told.fault_address {
+                at if at == extent.seam => "at the seam",
+                at if at == extent.size => "at N",
+                at => {
+                    assert_eq!((chosen.windowed, chosen.end), (1, at));
+                    "at the window's end"
+                }
+            };
+            tally.count("later byte missing", name);
         }
         (3, 0) if told.outcome.last < extent.seam => {
             tally.count("ADR of an access", "in the program's code");

@@ -1,11 +1,13 @@
 //! Whole records in blocks of words, as the head of crates/blocks_in/src/lib.rt
 //! lays them out.
 
+use desk::generate::Way;
 use desk::second::arithmetic::Codes;
 use desk::second::fault::{Fault, Reason};
 use desk::second::letter::{Accessed, Decoded, Executed, Instruction, Machine, Pipeline, Retired};
 use desk::second::machine::{Registers, Status};
 use desk::second::pipeline::{Kinds, Settings};
+use desk::second::window::Window;
 
 /// Words in an instruction's part, and in a state part.
 pub const INSTRUCTION: usize = 10;
@@ -16,10 +18,10 @@ const D: usize = 1;
 const E: usize = 11;
 const M: usize = 23;
 const W: usize = 36;
-const PIPELINE_STATE: usize = 50;
-const COUNTS: usize = 72;
-const KEPT: usize = 77;
-const SETTINGS: usize = 88;
+const PIPELINE_STATE: usize = 51;
+const COUNTS: usize = 73;
+const KEPT: usize = 79;
+const SETTINGS: usize = 91;
 
 /// A record that a block can hold.
 pub trait Block: Sized {
@@ -34,6 +36,7 @@ impl Block for Machine {
         let mut words = state(&self.registers, self.codes, self.status, self.last);
         words.extend(fault_words(self.fault));
         words.extend([self.address, self.count]);
+        words.extend(window_words(self.window));
         words
     }
 
@@ -46,13 +49,14 @@ impl Block for Machine {
             last: words[19],
             count: words[STATE + 1],
             fault: fault(words),
+            window: window(&words[STATE + 2..]),
         }
     }
 }
 
 impl Block for Pipeline {
     fn words(&self) -> Vec<u64> {
-        let mut words = vec![0; SETTINGS + 2];
+        let mut words = vec![0; SETTINGS + 5];
         words[0] = self.predicted;
         let mut state = state(&self.registers, self.codes, self.status, self.last);
         state.extend(fault_words(self.fault));
@@ -62,6 +66,7 @@ impl Block for Pipeline {
         words[COUNTS + 2] = self.kinds.load_use;
         words[COUNTS + 3] = self.kinds.mispredict;
         words[COUNTS + 4] = self.kinds.returns;
+        words[COUNTS + 5] = self.kinds.patch;
         let holds = u64::from;
         if let Some(d) = self.d {
             put(&mut words[D..], &d, &[]);
@@ -78,13 +83,16 @@ impl Block for Pipeline {
         }
         if let Some(w) = self.w {
             let own = [w.result, holds(w.holds), w.word, w.status.number()];
+            let own = [&own[..], &[holds(w.patched)]].concat();
             put(&mut words[W..], &w.instruction, &own);
         }
         if let Some(kept) = self.kept {
-            put(&mut words[KEPT..], &kept.instruction, &[holds(kept.holds)]);
+            let own = [holds(kept.holds), holds(kept.patched)];
+            put(&mut words[KEPT..], &kept.instruction, &own);
         }
         words[SETTINGS] = u64::from(self.settings.rule);
         words[SETTINGS + 1] = u64::from(self.settings.late);
+        words[SETTINGS + 2..].copy_from_slice(&window_words(self.settings.window));
         words
     }
 
@@ -106,11 +114,13 @@ impl Block for Pipeline {
                 load_use: words[COUNTS + 2],
                 mispredict: words[COUNTS + 3],
                 returns: words[COUNTS + 4],
+                patch: words[COUNTS + 5],
             },
             kept: kept_from(&words[KEPT..]),
             settings: Settings {
                 rule: byte(words[SETTINGS]),
                 late: truth(words[SETTINGS + 1]),
+                window: window(&words[SETTINGS + 2..]),
             },
             fault: fault(state),
         }
@@ -128,6 +138,19 @@ fn state(registers: &Registers, codes: Codes, status: Status, last: u64) -> Vec<
 /// The last words of a state part.
 fn fault_words(fault: Fault) -> [u64; 2] {
     [fault.reason.number(), fault.address]
+}
+
+/// Whether there is a window, its first address and its end.
+fn window_words(window: Option<Window>) -> [u64; 3] {
+    window.map_or([0; 3], |window| [1, window.first, window.end])
+}
+
+/// The window of three words; without one the last two are not looked at.
+fn window(words: &[u64]) -> Option<Window> {
+    truth(words[0]).then(|| Window {
+        first: words[1],
+        end: words[2],
+    })
 }
 
 /// An instruction into its part, and what the stage adds behind it.
@@ -187,6 +210,7 @@ fn w_from(part: &[u64]) -> Option<Accessed> {
         holds: truth(part[INSTRUCTION + 1]),
         word: part[INSTRUCTION + 2],
         status: status(part[INSTRUCTION + 3]),
+        patched: truth(part[INSTRUCTION + 4]),
     })
 }
 
@@ -194,6 +218,7 @@ fn kept_from(part: &[u64]) -> Option<Retired> {
     instruction(part).map(|instruction| Retired {
         instruction,
         holds: truth(part[INSTRUCTION]),
+        patched: truth(part[INSTRUCTION + 1]),
     })
 }
 
@@ -233,4 +258,20 @@ fn byte(word: u64) -> u8 {
 fn truth(word: u64) -> bool {
     assert!(word < 2, "{word} is neither true nor false");
     word == 1
+}
+
+/// A block holds all of a record, each word at a place of its own.
+#[test]
+fn blocks_hold_whole_records() {
+    let mut calls = desk::generate::Calls::new(0xb10c);
+    for number in 0..20_000 {
+        let machine: Machine = calls.call(Way::Single).1.record;
+        let words = machine.words();
+        assert_eq!(words.len(), 27);
+        assert_eq!(Machine::from_words(&words), machine, "call {number}");
+        let pipeline: Pipeline = calls.call(Way::Single).1.record;
+        let words = pipeline.words();
+        assert_eq!(words.len(), 96);
+        assert_eq!(Pipeline::from_words(&words), pipeline, "call {number}");
+    }
 }

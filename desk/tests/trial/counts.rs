@@ -2,12 +2,13 @@
 
 use crate::common::reasons::{reason_name, REASONS};
 use crate::common::tally::{Classes, Tally};
-use crate::common::{seams, settings};
+use crate::common::{seams, settings, windows};
 use crate::entries::Engine;
 use desk::generate::{Call, Origin};
 use desk::second::letter::{Executed, Instruction, Machine, Pipeline};
 use desk::second::machine::{Refusal, Status};
-use desk::second::table::{CALL, CMOV, IADDQ, JXX, OPQ, RET};
+use desk::second::table::{CALL, CMOV, IADDQ, JXX, OPQ, PUSHQ, RET, RMMOVQ};
+use desk::second::window;
 
 const ORIGINS: [&str; 3] = ["fresh", "reached", "hand-made"];
 const STATUSES: [&str; 4] = ["AOK", "HLT", "ADR", "INS"];
@@ -28,6 +29,14 @@ const HELD: [&str; 14] = [
     "halt", "nop", "cmovXX", "irmovq", "rmmovq", "mrmovq", "OPq", "jXX", "call", "ret", "pushq",
     "popq", "iaddq", "bubble",
 ];
+/// The refusals that may apply together to a run with logs, without, and to a
+/// start.
+const LOGGED: [&str; 16] = [
+    "nothing", "1", "3", "1+3", "4", "1+4", "3+4", "1+3+4", "5", "1+5", "3+5", "1+3+5", "4+5",
+    "1+4+5", "3+4+5", "1+3+4+5",
+];
+const UNLOGGED: [&str; 8] = ["nothing", "1", "3", "1+3", "5", "1+5", "3+5", "1+3+5"];
+const STARTS: [&str; 8] = ["nothing", "1", "5", "1+5", "6", "1+6", "5+6", "1+5+6"];
 const FAULTS: [&str; 6] = ["rA", "rB", "code", "move", "jump", "OPq"];
 
 /// Every class that has to occur, under its heading. An entry's calls are
@@ -35,31 +44,13 @@ const FAULTS: [&str; 6] = ["rA", "rB", "code", "move", "jump", "OPq"];
 /// none does; "refused for D" and the like name the one fault of a record that
 /// has no other.
 pub const CLASSES: &Classes = &[
-    (
-        "plain::run refused for",
-        &["nothing", "1", "3", "1+3", "4", "1+4", "3+4", "1+3+4"],
-    ),
-    ("plain::step refused for", &["nothing", "1", "3", "1+3"]),
-    ("plain::start refused for", &["nothing", "1", "6", "1+6"]),
-    (
-        "pipe::start refused for",
-        &["nothing", "1", "5", "1+5", "6", "1+6", "5+6", "1+5+6"],
-    ),
-    (
-        "pipe::run refused for",
-        &[
-            "nothing", "1", "3", "1+3", "4", "1+4", "3+4", "1+3+4", "5", "1+5", "3+5", "1+3+5",
-            "4+5", "1+4+5", "3+4+5", "1+3+4+5",
-        ],
-    ),
-    (
-        "pipe::run_unlogged refused for",
-        &["nothing", "1", "3", "1+3", "5", "1+5", "3+5", "1+3+5"],
-    ),
-    (
-        "pipe::clock refused for",
-        &["nothing", "1", "3", "1+3", "5", "1+5", "3+5", "1+3+5"],
-    ),
+    ("plain::run refused for", &LOGGED),
+    ("plain::step refused for", &UNLOGGED),
+    ("plain::start refused for", &STARTS),
+    ("pipe::start refused for", &STARTS),
+    ("pipe::run refused for", &LOGGED),
+    ("pipe::run_unlogged refused for", &UNLOGGED),
+    ("pipe::clock refused for", &UNLOGGED),
     ("plain record", &ORIGINS),
     ("plain status given", &STATUSES),
     ("plain status left", &STATUSES),
@@ -104,7 +95,15 @@ pub const CLASSES: &Classes = &[
     ("refused for kept", &FAULTS),
     (
         "refused for",
-        &["retired", "load-use", "mispredict", "return", "rule"],
+        &[
+            "retired",
+            "load-use",
+            "mispredict",
+            "return",
+            "patch",
+            "rule",
+            "window",
+        ],
     ),
     (
         "bad status in",
@@ -147,10 +146,17 @@ pub const CLASSES: &Classes = &[
         ],
     ),
     ("own next address", &["of a jump in M", "of a call in M"]),
-    ("charged", &["nothing", "load-use", "mispredict", "return"]),
+    (
+        "charged",
+        &["nothing", "load-use", "mispredict", "return", "patch"],
+    ),
     (
         "kept",
-        &["false jump without a condition", "ret before a stop"],
+        &[
+            "false jump without a condition",
+            "ret before a stop",
+            "patched, and no store",
+        ],
     ),
 ];
 
@@ -329,6 +335,9 @@ impl Counted for Pipeline {
         compared.count(tally, refused);
         settings::count(tally, compared.given);
         compared.count_record(tally);
+        if !compared.is_refused() {
+            windows::count_call(tally, &compared.given.record, compared.given.extent());
+        }
         if cfg!(trial_split) {
             let (given, left) = (&compared.given.record, &compared.left.record);
             seams::count_pipelined(tally, given, left, compared.given.extent());
@@ -382,11 +391,16 @@ impl Compared<'_, Pipeline> {
             ("load-use", record.kinds.load_use),
             ("mispredict", record.kinds.mispredict),
             ("return", record.kinds.returns),
+            ("patch", record.kinds.patch),
         ];
         let above = counts.iter().filter(|(_, count)| *count > record.cycles);
         faults.extend(above.map(|(name, _)| ("refused for", *name)));
         if record.settings.rule > 2 {
             faults.push(("refused for", "rule"));
+        }
+        let size = self.given.extent().size;
+        if window::check(record.settings.window, size).is_err() {
+            faults.push(("refused for", "window"));
         }
         if let [(heading, fault)] = faults[..] {
             tally.count(heading, fault);
@@ -408,6 +422,7 @@ impl Compared<'_, Pipeline> {
             ("load-use", after.load_use > before.load_use),
             ("mispredict", after.mispredict > before.mispredict),
             ("return", after.returns > before.returns),
+            ("patch", after.patch > before.patch),
         ];
         for (name, _) in charges.iter().filter(|(_, charged)| *charged) {
             tally.count("charged", name);
@@ -435,6 +450,10 @@ impl Compared<'_, Pipeline> {
             tally.count("bad status in", place);
         }
         let Some(kept) = record.kept else { return };
+        let store = matches!(kept.instruction.code, RMMOVQ | PUSHQ | CALL);
+        if kept.patched && !store && record.w.is_some() {
+            tally.count("kept", "patched, and no store");
+        }
         if kept.instruction.code == RET && bad_in_w {
             tally.count("kept", "ret before a stop");
         }

@@ -156,7 +156,7 @@ impl Engine for Machine {
     const START_REFUSED: &'static str = "plain::start refused for";
 
     fn start_reasons(&self, size: u64, start: u64) -> Vec<Refusal> {
-        Machine::start_reasons(size, start)
+        Machine::start_reasons(size, start, self.window)
     }
 
     fn start_by_product(&mut self, size: u64, start: u64) -> u64 {
@@ -166,7 +166,7 @@ impl Engine for Machine {
     }
 
     fn start_by_letter(&mut self, size: u64, start: u64) -> u64 {
-        let fresh = Machine::fresh(size, self.registers, self.codes, start);
+        let fresh = Machine::fresh(size, self.registers, self.codes, start, self.window);
         number(fresh.map(|fresh| *self = fresh))
     }
 }

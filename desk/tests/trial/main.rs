@@ -19,7 +19,7 @@ mod fetching;
 mod split;
 
 use common::tally::Tally;
-use common::{seams, settings};
+use common::{seams, settings, windows};
 use counts::{reasons_name, Compared, Counted, CLASSES};
 use desk::generate::{Call, Calls, Way};
 use desk::second::Status;
@@ -53,7 +53,7 @@ fn every_entry_is_the_letters_equal() {
     } else {
         &[]
     };
-    let classes = [CLASSES, settings::CLASSES, seams].concat();
+    let classes = [CLASSES, settings::CLASSES, seams, windows::CALL_CLASSES].concat();
     println!("{}", tally.table(&classes));
     tally.check(&classes, 1);
 }
