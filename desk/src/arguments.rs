@@ -127,6 +127,7 @@ struct Options {
     budget: Option<OsString>,
     registers: Option<OsString>,
     program: Option<OsString>,
+    window: Option<OsString>,
     size: Option<OsString>,
     listing: Option<()>,
     table: Option<OsString>,
@@ -177,6 +178,7 @@ impl Options {
             ("list", "--from") => Ok(&mut self.from),
             ("list", "--to") => Ok(&mut self.to),
             ("replay", "--program") => Ok(&mut self.program),
+            ("replay", "--window") => Ok(&mut self.window),
             ("peaks", "--table") => Ok(&mut self.table),
             ("peaks", "--length") => Ok(&mut self.length),
             ("peaks", "--filed") => Ok(&mut self.filed),
@@ -250,6 +252,7 @@ impl Options {
                 codes: number_or("--codes", self.codes, 4)?,
                 budget: number_or("--budget", self.budget, 4_000)?,
                 program: size_of("--program", self.program)?,
+                window: window(self.window)?,
             },
             second: self.second.is_some(),
         })
@@ -288,6 +291,20 @@ fn wanted(name: &str, word: Option<OsString>) -> Result<u64, Fault> {
 
 fn number_or(name: &str, word: Option<OsString>, otherwise: u64) -> Result<u64, Fault> {
     word.map_or(Ok(otherwise), |word| number(name, &word))
+}
+
+/// A window's first address and its end, with a colon between them.
+fn window(word: Option<OsString>) -> Result<Option<(u64, u64)>, Fault> {
+    let Some(word) = word else {
+        return Ok(None);
+    };
+    let text = word.to_str().unwrap_or("");
+    let (first, end) = text.split_once(':').ok_or_else(|| {
+        let given = shown(&word);
+        usage(format!("--window {given}: FIRST:END is wanted, as 0:0x3e"))
+    })?;
+    let number = |text: &str| number("--window", OsStr::new(text));
+    Ok(Some((number(first)?, number(end)?)))
 }
 
 /// A number of bytes, where one is given; larger than any image, where it is

@@ -87,10 +87,18 @@ fn refusal(number: u64, given: &Given, image: &Source, registers: &Source) -> St
             "the budget is {}; it has to be 1 to {CYCLE_LIMIT} cycles",
             given.budget
         ),
-        5 => format!(
+        5 if given.codes > 7 => format!(
             "the codes are {}; they have to be 0 to 7, as 4ZF + 2SF + OF",
             given.codes
         ),
+        5 => {
+            let (first, end) = given.window.unwrap_or((0, 0));
+            let size = image.bytes.len();
+            format!(
+                "the window is from {first} to {end}; both have to be at most {size}, the \
+                 bytes of the image, and the end not below the first"
+            )
+        }
         6 => format!(
             "the start address is {}; it has to be below {}, the bytes of the image",
             given.start,

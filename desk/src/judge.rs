@@ -26,6 +26,7 @@ const AS_Y86RUN: Given = Given {
     codes: 4,
     budget: 4_000,
     program: None,
+    window: None,
 };
 
 /// The result words: good samples, peak, place, failed, sum, the mean's bits

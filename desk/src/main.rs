@@ -52,6 +52,9 @@ options of replay; the first two and --registers are junk's too:
                      and r8 to r14, 8 bytes each, least byte first (all 0)
   --program N        the first N bytes are the program's: they are only read,
                      and no instruction or word lies across their end (none)
+  --window FIRST:END only bytes from FIRST up to END, which is not among them,
+                     are fetched as instructions; a store among them is seen by
+                     every instruction behind it, which costs 3 cycles (none)
   --second           a second opinion: by the second program, not the engine
 
 Numbers are decimal, or hex after 0x. An option that is not given has the value

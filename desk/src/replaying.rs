@@ -13,6 +13,21 @@ pub struct Given {
     pub budget: u64,
     /// Bytes at the front that are the program's and only read, if any (#110).
     pub program: Option<usize>,
+    /// The first address and the end of the code window, if one is set (#113).
+    pub window: Option<(u64, u64)>,
+}
+
+impl Given {
+    /// The settings as numbers: document 01's, but for the window.
+    fn chosen(&self) -> Chosen {
+        let (first, end) = self.window.unwrap_or((0, 0));
+        Chosen {
+            windowed: u64::from(self.window.is_some()),
+            first,
+            end,
+            ..Chosen::default()
+        }
+    }
 }
 
 /// What a replay tells.
@@ -21,6 +36,8 @@ pub struct Told {
     /// The reason of a failed fetch and the address of the byte at fault, by
     /// their numbers (#107), where the engine tells them.
     pub fault: Option<(u64, u64)>,
+    /// The cycles charged behind stores into the window (#113).
+    pub patch: u64,
 }
 
 /// Why a replay tells nothing.
@@ -56,7 +73,7 @@ pub fn replay(
     given: &Given,
 ) -> Result<Told, Untold> {
     let (start, codes, budget) = (given.start, given.codes, given.budget);
-    let chosen = Chosen::default();
+    let chosen = given.chosen();
     if let Some(seam) = given.program {
         let replay = splitting(second).ok_or(Untold::Missing("y86_replay_split"))?;
         let (program, writable) = memory.split_at_mut(seam);
@@ -68,6 +85,9 @@ pub fn replay(
         return told.map(Told::all).map_err(Untold::Refused);
     }
     let Some(replay) = telling(second) else {
+        if given.window.is_some() {
+            return Err(Untold::Missing("y86_replay_set"));
+        }
         let replay = engine::replay;
         let outcome = engine::outcome(replay, memory, registers, start, codes, budget);
         return outcome.map(Told::short).map_err(Untold::Refused);
@@ -83,12 +103,16 @@ impl Told {
         Told {
             outcome: full.outcome,
             fault: Some((full.reason, full.fault_address)),
+            patch: full.kinds[3],
         }
     }
 
     fn short(outcome: Outcome) -> Told {
-        let fault = None;
-        Told { outcome, fault }
+        Told {
+            outcome,
+            fault: None,
+            patch: 0,
+        }
     }
 }
 

@@ -40,6 +40,9 @@ pub fn text(
     text += &format!("codes    {codes} (ZF {zf}, SF {sf}, OF {of})\n");
     text += &format!("retired  {}\n", outcome.retired);
     text += &format!("cycles   {}\n", outcome.cycles);
+    if before.given.window.is_some() {
+        text += &format!("patches  {} of the cycles\n", told.patch);
+    }
     text += &register_lines(registers);
     text += &change_lines(before.memory, memory);
     text
@@ -52,7 +55,8 @@ pub fn ending(told: &Told, given: &Given, memory: &[u8]) -> String {
     let mut text = format!("status   {}\n", status(outcome.status, given.budget));
     let reason = told.fault.and_then(|(number, at)| {
         let reason = Reason::from_number(number)?;
-        crossing(reason, at, given)
+        beside_window(reason, at, given)
+            .or_else(|| crossing(reason, at, given))
             .or_else(|| why(reason, at, memory))
             .or_else(|| access(outcome, given))
     });
@@ -90,6 +94,20 @@ fn why(reason: Reason, at: u64, memory: &[u8]) -> Option<String> {
         Reason::Register => format!("the register byte at {at:#x} names register 15"),
     };
     Some(words)
+}
+
+/// The words for a byte that is missing because it is not in the window (#113).
+fn beside_window(reason: Reason, at: u64, given: &Given) -> Option<String> {
+    let (first, end) = given.window?;
+    let window = format!("not in the code window from {first:#x} to {end:#x}");
+    match reason {
+        _ if (first..end).contains(&at) => None,
+        Reason::FirstMissing => Some(format!("the byte at {at:#x} is {window}")),
+        Reason::LaterMissing if at == end => Some(format!(
+            "the instruction goes on to the byte at {at:#x}, which is {window}"
+        )),
+        _ => None,
+    }
 }
 
 /// The words for an instruction that crosses the seam (#110).

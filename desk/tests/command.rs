@@ -189,6 +189,45 @@ fn a_program_part_is_only_read() {
     fault(&peaks, 64, &["no option of peaks"]);
 }
 
+/// #113: the example that patches itself, through a window, by every engine that
+/// takes one.
+#[test]
+fn a_window_lets_an_image_patch_itself() {
+    let example = concat!(env!("CARGO_MANIFEST_DIR"), "/../examples/patching.lst");
+    let given = ["replay", "--listing", example, "--size=256"];
+    let cases = [
+        ("0:0x3e", 0, "patches  9 of the cycles\n"),
+        ("0:0x3e", 0, "rax  0x60 (96)"),
+        ("0:256", 0, "rax  0x60 (96)"),
+        (
+            "0:0x3d",
+            2,
+            "0x3d is not in the code window from 0x0 to 0x3d",
+        ),
+        (
+            "0:0x30",
+            2,
+            "the byte at 0x30, which is not in the code window",
+        ),
+        ("1:1", 2, "the byte at 0x0 is not in the code window"),
+    ];
+    for (window, status, says) in cases {
+        let words = [&given[..], &["--window", window]].concat();
+        let second = said(&[&words[..], &["--second"]].concat());
+        assert_eq!((second.0, second.2.as_str()), (status, ""), "{window}");
+        assert!(second.1.contains(says), "{}", second.1);
+        match desk::engine::REPLAY_SET {
+            Some(_) => assert_eq!(said(&words), second),
+            None => fault(&words, 64, &["y86_replay_set", "--second"]),
+        }
+    }
+    let bad = |window| [&given[..], &["--second", "--window", window]].concat();
+    fault(&bad("0:257"), 10, &["refused (5)", "from 0 to 257", "256"]);
+    fault(&bad("9:8"), 10, &["refused (5)", "not below the first"]);
+    fault(&bad("9"), 64, &["--window '9'", "FIRST:END"]);
+    fault(&bad("0:x"), 64, &["--window 'x'", "a number is wanted"]);
+}
+
 /// The options in any place, numbers in two ways, and a last word cut at N.
 #[test]
 fn options_are_taken() {
