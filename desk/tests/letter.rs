@@ -207,10 +207,7 @@ fn packed(record: &letter::Pipeline) -> Pipeline {
     let undecided = |held: &letter::Instruction| undecided(held, record.settings.rule);
     Pipeline {
         predicted: record.predicted,
-        d: record.d.map(|d| Decoding {
-            instruction: undecided(&d),
-            constant: d.constant,
-        }),
+        d: record.d.map(|d| Decoding::new(undecided(&d), d.constant)),
         e: record.e.map(|e| Executing {
             instruction: undecided(&e.instruction),
             constant: e.instruction.constant,

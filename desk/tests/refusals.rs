@@ -313,31 +313,37 @@ fn fresh_starts_are_refused_for_the_rule() {
     }
 }
 
+/// Windows for nine bytes: first, end, and whether they are taken.
+const WINDOWS: [(u64, u64, bool); 11] = [
+    (0, 0, true),
+    (0, 9, true),
+    (9, 9, true),
+    (4, 6, true),
+    (0, 10, false),
+    (10, 10, false),
+    (5, 4, false),
+    (1, 0, false),
+    (0, u64::MAX, false),
+    (u64::MAX, 0, false),
+    (u64::MAX, u64::MAX, false),
+];
+
+/// Settings with a window, and refusal 5 where it is not taken.
+fn windowed((first, end, fits): (u64, u64, bool)) -> (Settings, Option<Refusal>) {
+    let settings = Settings {
+        window: Some(Window { first, end }),
+        ..Settings::default()
+    };
+    (settings, (!fits).then_some(Refusal::Record))
+}
+
 /// #113: a window that does not lie in memory is refusal 5, of both engines, at
-/// starts after 1 and before 6, and at runs.
+/// starts after 1 and before 6.
 #[test]
-fn windows_outside_memory_are_refused() {
+fn fresh_starts_are_refused_for_the_window() {
     let (registers, codes) = (Registers::default(), codes(4));
-    let cases = [
-        (0, 0, true),
-        (0, 9, true),
-        (9, 9, true),
-        (4, 6, true),
-        (0, 10, false),
-        (10, 10, false),
-        (5, 4, false),
-        (1, 0, false),
-        (0, u64::MAX, false),
-        (u64::MAX, 0, false),
-        (u64::MAX, u64::MAX, false),
-    ];
-    for (first, end, fits) in cases {
-        let window = Some(Window { first, end });
-        let settings = Settings {
-            window,
-            ..Settings::default()
-        };
-        let of_window = (!fits).then_some(Refusal::Record);
+    for (settings, of_window) in WINDOWS.map(windowed) {
+        let window = settings.window;
         let starts = [
             (0, 0, Some(Refusal::Memory)),
             (9, 0, of_window),
@@ -350,13 +356,18 @@ fn windows_outside_memory_are_refused() {
                 Pipeline::fresh(size, registers, codes, start, settings).err(),
                 letter::Pipeline::fresh(size, registers, codes, start, settings).err(),
             ];
-            assert_eq!(
-                answers, [expected; 4],
-                "{first} to {end}, {start} in {size}"
-            );
+            assert_eq!(answers, [expected; 4], "{window:?}, {start} in {size}");
         }
-        let mut machine = Plain::fresh(9, registers, codes, 0, None).expect("a start");
-        machine.window = window;
+    }
+}
+
+/// #113: and at runs, after all lower numbers.
+#[test]
+fn runs_are_refused_for_the_window() {
+    for (settings, of_window) in WINDOWS.map(windowed) {
+        let mut machine =
+            Plain::fresh(9, Registers::default(), codes(4), 0, None).expect("a start");
+        machine.window = settings.window;
         assert_eq!(machine.step(&mut [0x10; 9]).err(), of_window);
         assert_eq!(machine.step(&mut []).err(), Some(Refusal::Memory));
         let given = Pipeline {
@@ -364,11 +375,8 @@ fn windows_outside_memory_are_refused() {
             ..pipeline()
         };
         assert_eq!(pipeline_refusal(given, 9, 1, (1, 1)), of_window);
-        assert_eq!(
-            pipeline_refusal(given, 9, 1, (1, 0)),
-            Some(Refusal::Buffer),
-            "lowest number wins"
-        );
+        let short = pipeline_refusal(given, 9, 1, (1, 0));
+        assert_eq!(short, Some(Refusal::Buffer), "lowest number wins");
     }
 }
 

@@ -409,6 +409,16 @@ fn refused_instruction(random: &mut Random, size: usize) -> Instruction {
     spoilt
 }
 
+/// What M holds of an instruction, with these values.
+fn executed(instruction: Instruction, [a, result]: [u64; 2], holds: bool) -> Executed {
+    Executed {
+        instruction,
+        a,
+        result,
+        holds,
+    }
+}
+
 /// Puts an instruction into D, E, M or W, or keeps it, by the place's number,
 /// with any values for what the place adds.
 fn hold(
@@ -419,24 +429,14 @@ fn hold(
     size: usize,
 ) {
     let [one, other] = [value(random, size), value(random, size)];
-    let holds = random.chance(1, 2);
+    let [holds, patched] = [random.chance(1, 2), random.chance(1, 4)];
     match place {
         0 => record.d = Some(instruction),
         1 => {
-            record.e = Some(Decoded {
-                instruction,
-                a: one,
-                b: other,
-            })
+            let (a, b) = (one, other);
+            record.e = Some(Decoded { instruction, a, b });
         }
-        2 => {
-            record.m = Some(Executed {
-                instruction,
-                a: one,
-                result: other,
-                holds,
-            })
-        }
+        2 => record.m = Some(executed(instruction, [one, other], holds)),
         3 => {
             record.w = Some(Accessed {
                 instruction,
@@ -444,14 +444,14 @@ fn hold(
                 holds,
                 word: other,
                 status: status(random, 5, 6),
-                patched: random.chance(1, 4),
+                patched,
             })
         }
         _ => {
             record.kept = Some(Retired {
                 instruction,
                 holds,
-                patched: random.chance(1, 4),
+                patched,
             })
         }
     }

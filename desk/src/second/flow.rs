@@ -263,11 +263,8 @@ fn execute(stage: &Executing, codes: Codes) -> (Accessing, Codes) {
     let mut instruction = stage.instruction;
     let (mut a, b, constant) = (stage.a, stage.b, stage.constant);
     let mut codes_after = codes;
-    let decided = || {
-        stage
-            .instruction
-            .decided(codes.condition(stage.instruction.function()))
-    };
+    let fetched = stage.instruction;
+    let decided = || fetched.decided(codes.condition(fetched.function()));
     let mut setting = |(result, set)| {
         codes_after = set;
         result

@@ -6,6 +6,7 @@ use desk::second::letter;
 use desk::second::machine::{Status, NONE};
 use desk::second::memory::Extent;
 use desk::second::pipeline::Pipeline;
+use desk::second::stages::Instruction;
 use desk::second::table::{CALL, IADDQ, OPQ, PUSHQ, RET, RMMOVQ};
 use desk::second::window::Window;
 use std::ops::Range;
@@ -100,10 +101,27 @@ pub fn count_clock(
     }
     tally.count("patched by", store_name(store.instruction.code()));
     tally.count("window written", written_name(window, store.result));
-    let e = before.e.map(|e| e.instruction);
-    let d = before.d.map(|d| d.instruction);
-    let code = |held: Option<desk::second::stages::Instruction>| held.map_or(0xff, |h| h.code());
-    let bad = |held: Option<desk::second::stages::Instruction>| held.is_some_and(|h| h.is_bad());
+    for name in given_way(before) {
+        tally.count("in the clock of a patch", name);
+    }
+    if let (Some(e), Some(follower)) = (before.e.map(|e| e.instruction), follower) {
+        let performed = follower.parts.map(|parts| (parts.code, parts.function));
+        let same = performed == Some((e.code(), e.function())) && !e.is_bad();
+        let name = ["another instruction", "the same"][usize::from(same)];
+        if e.address() == follower.address {
+            tally.count("cancelled in E", name);
+        }
+    }
+}
+
+/// What gives way to a patch in a clock.
+fn given_way(before: &Pipeline) -> Vec<&'static str> {
+    let [d, e] = [
+        before.d.map(|d| d.instruction),
+        before.e.map(|e| e.instruction),
+    ];
+    let code = |held: Option<Instruction>| held.map_or(0xff, |held| held.code());
+    let bad = |held: Option<Instruction>| held.is_some_and(|held| held.is_bad());
     let loaded = e.map_or(NONE, |e| e.loaded_target());
     let waits = d.is_some_and(|d| d.waits_for(loaded, before.settings.late));
     let decided = e.map(|e| e.decided(before.codes.condition(e.function())));
@@ -117,17 +135,11 @@ pub fn count_clock(
         bad(e),
         bad(d),
     ];
-    for (name, _) in SAME_CLOCK.iter().zip(seen).filter(|(_, seen)| *seen) {
-        tally.count("in the clock of a patch", name);
-    }
-    if let (Some(e), Some(follower)) = (e, follower) {
-        let performed = follower.parts.map(|parts| (parts.code, parts.function));
-        let same = performed == Some((e.code(), e.function())) && !e.is_bad();
-        let name = ["another instruction", "the same"][usize::from(same)];
-        if e.address() == follower.address {
-            tally.count("cancelled in E", name);
-        }
-    }
+    let named = SAME_CLOCK.into_iter().zip(seen);
+    named
+        .filter(|(_, seen)| *seen)
+        .map(|(name, _)| name)
+        .collect()
 }
 
 fn meet(one: &Range<u64>, other: &Range<u64>) -> bool {

@@ -73,16 +73,12 @@ fn the_full_block_is_the_second_programs_equal() {
 }
 
 fn count(tally: &mut Tally, case: &Case, chosen: Chosen, left: &Left) {
+    const FEW: [&str; 4] = ["0", "1", "2", "another"];
+    const TWO: [&str; 3] = ["0", "1", "another"];
     tally.count("answer", NUMBERS[left.answer as usize]);
-    tally.count(
-        "rule",
-        ["0", "1", "2", "another"][chosen.rule.min(3) as usize],
-    );
-    tally.count("late", ["0", "1", "another"][chosen.late.min(2) as usize]);
-    tally.count(
-        "windowed",
-        ["0", "1", "another"][chosen.windowed.min(2) as usize],
-    );
+    tally.count("rule", FEW[chosen.rule.min(3) as usize]);
+    tally.count("late", TWO[chosen.late.min(2) as usize]);
+    tally.count("windowed", TWO[chosen.windowed.min(2) as usize]);
     if left.answer == 5 && case.codes <= 7 {
         let name = match chosen {
             Chosen { rule: 3.., .. } => "rule",
@@ -92,11 +88,13 @@ fn count(tally: &mut Tally, case: &Case, chosen: Chosen, left: &Left) {
         };
         tally.count("refused for the settings alone", name);
     }
-    if left.answer > 0 {
-        return;
+    if left.answer == 0 {
+        let block: &[u8; FULL_BYTES] = left.result[..].try_into().expect("a full block");
+        count_told(tally, chosen, &FullOutcome::read(block));
     }
-    let block: &[u8; FULL_BYTES] = left.result[..].try_into().expect("a full block");
-    let told = FullOutcome::read(block);
+}
+
+fn count_told(tally: &mut Tally, chosen: Chosen, told: &FullOutcome) {
     tally.count("status", STATUSES[told.outcome.status as usize - 1]);
     tally.count("failed fetch", REASONS[told.reason as usize]);
     if told.outcome.status == 3 && told.reason == 0 {
@@ -111,11 +109,8 @@ fn count(tally: &mut Tally, case: &Case, chosen: Chosen, left: &Left) {
         tally.count("missing byte with a window", name);
     }
     let names = ["load-use", "mispredict", "return", "patch"];
-    for (name, _) in names
-        .iter()
-        .zip(told.kinds)
-        .filter(|(_, cycles)| *cycles > 0)
-    {
+    let kinds = names.iter().zip(told.kinds);
+    for (name, _) in kinds.filter(|(_, cycles)| *cycles > 0) {
         tally.count("charged for", name);
     }
 }
