@@ -155,7 +155,7 @@ cases =
     ∷ patching 0 17 17 17 0x80_0900000000000000_1010101010101010 ((4, 17) ∷ []) ins 9 4 2 9 0 0 0 3 ((word, 9, 9) ∷ (register, 4, 9) ∷ [])
     -- #113: the cancelled addq sets no codes
     ∷ patching 0 18 18 18 0x4001_0a00000000000000_6000_101010101010 ((0, 2 ^ 63) ∷ []) hlt 10 4 2 9 0 0 0 3 []
-    -- #113: a loop that doubles its own constant, examples/patching.lst: 1, 2 and 4 are added
+    -- #113: a loop that doubles its own constant, examples/doubling.lst: 1, 2 and 4 are added
     ∷ patching 0 54 54 54
     0x30f1_0300000000000000_30f2_0100000000000000_6020_6022_4023_0c00000000000000_c0f1_ffffffffffffffff_74_0a00000000000000_00 [] hlt 53 4 20 35 0 2 0 9
     ((register, 0, 7) ∷ (register, 2, 8) ∷ (word, 12, 8) ∷ [])

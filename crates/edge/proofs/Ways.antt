@@ -1,6 +1,6 @@
 -- One law for each way out of a function, over variables for what its callees gave. Assumes nothing.
-use mathlib.Core.Path.{_≡_, ap, sym, _∙_}
-use mathlib.Core.Bool.{Bool}
+use mathlib.Core.Path.{_≡_, refl, ap, sym, _∙_}
+use mathlib.Core.Bool.{Bool, false}
 use mathlib.Core.List.{List, []}
 use Prim.Native.Nat.{ℕ}
 use borrow.Author.Tests.{ne-eqb}
@@ -9,11 +9,12 @@ use Rattle.machine.specs.declared.Codes.{Codes}
 use Rattle.clocked.specs.declared.Settings.{Settings}
 use Rattle.clocked.specs.declared.Pipeline.{Pipeline}
 use Rattle.machine.specs.Memory.{lent}
+use Rattle.clocked.specs.Prediction.{asIn01}
 use Rattle.clocked.specs.Pipeline.{pipeStart}
 use Rattle.clocked.specs.PipeRuns.{pipeStarted, PipeAnswer, pipeAnswer, pipeRunUnlogged}
 use Rattle.block.specs.Block.{wordsIn, withWords, codesFrom}
-use Rattle.replay_ends.specs.Ends.{replayRefusal}
-use Rattle.edge.specs.Edge.{edge, edgeDone, edgeRun, replayedBy}
+use Rattle.replay_ends.specs.Ends.{Numbers, numbersRefused, settingsOf, replayRefusal, resultWords, fullWords}
+use Rattle.edge.specs.Edge.{Edge, edge, edgeDone, edgeRun, replayedBy, replayed, replayedSet}
 
 -- THE RUN
 module _ (s : Settings) (memory registers : List ℕ) (start codes budget : ℕ) where
@@ -40,3 +41,20 @@ module _ (block : ℕ) (words : Pipeline → List ℕ) (chosen : Bool) (s : Sett
       → edge 0 memory′ registers′ result′ ≡ replayedBy block words chosen s memory registers result start codes budget
   unfolding replayedBy edgeDone
   replays end memory′ registers′ result′ z (e, m, r) q = rw (sym h ∙ z) (cc)
+
+-- document 01's replay is that of its own settings
+pub as-in-01 : {x : Edge} {s : Settings} {memory registers result : List ℕ} {start codes budget : ℕ} → s ≡ asIn01
+    → x ≡ replayedBy 40 resultWords false s memory registers result start codes budget → x ≡ replayed memory registers result start codes budget
+unfolding replayed
+as-in-01 e h = cc
+
+-- and with settings by their numbers it is that of the settings that they choose
+module _ {m : Numbers} {memory registers result : List ℕ} {start codes budget : ℕ} {chosen : Bool} (c : chosen ≡ numbersRefused m (length memory)) where
+  pub as-chosen : {x : Edge} {s : Settings} → s ≡ settingsOf m
+      → x ≡ replayedBy 88 fullWords chosen s memory registers result start codes budget → x ≡ replayedSet m memory registers result start codes budget
+  unfolding replayedSet
+  as-chosen e h = cc
+
+  pub refused-as-chosen : {n : ℕ} → n ≡ replayRefusal 88 chosen (length memory) (length registers) (length result) start codes budget → (n ≡ 0 → ⊥)
+      → edge n memory registers result ≡ replayedSet m memory registers result start codes budget
+  refused-as-chosen h z = as-chosen refl (refuses 88 fullWords chosen (settingsOf m) memory registers result start codes budget _ h z)

@@ -1,11 +1,10 @@
 -- A refusal by `refuses`; else what was let in is run and written back, by `replays`. A `let` names the record of facts behind a call by its type, for
 -- which `search` finds the place.
-use mathlib.Core.Bool.{false}
 use Rattle.clocked.specs.Prediction.{asIn01}
 use Rattle.replay_ends.specs.Allowed.{allowed}
 use Rattle.replay_ends.specs.Ends.{resultWords}
 use Rattle.edge.specs.Edge.{replayed}
-use Rattle.edge.proofs.Ways.{refuses, replays}
+use Rattle.edge.proofs.Ways.{refuses, replays, as-in-01}
 use borrow.Author.Needs.{needs}
 use Rattle.edge.proofs.y86_replay.Statement.{statement}
 use Rattle.edge.proofs.y86_replay.Tie as tie
@@ -42,14 +41,14 @@ same-length-3 : tie.Need-same-length-3
 same-length-3 c = search needs
 
 returns-2 : tie.Need-returns-2
-unfolding replayed
 returns-2 c =
     let answered : tie.After-write-result = search in
     let run : tie.After-replay = search in
     let settings : tie.After-as-in-01 = search in
     let allows : tie.Else1 = search in
     let tested : tie.After-refusal = search in
-    replays _ resultWords _ _ _ _ _ _ _ _ _ (tested .refusal .ensures) _ _ _ _ (allows .if1 .left) (run .replay .ensures) (answered .write-result .ensures)
+    as-in-01 (settings .as-in-01 .ensures)
+    (replays _ resultWords _ _ _ _ _ _ _ _ _ (tested .refusal .ensures) _ _ _ _ (allows .if1 .left) (run .replay .ensures) (answered .write-result .ensures))
 
 pub y86-replay-spec : {M : Type 1} → statement M
 y86-replay-spec =
