@@ -42,19 +42,19 @@ module _ (block : ℕ) (words : Pipeline → List ℕ) (chosen : Bool) (s : Sett
   unfolding replayedBy edgeDone
   replays end memory′ registers′ result′ z (e, m, r) q = rw (sym h ∙ z) (cc)
 
--- document 01's replay is that of its own settings
-pub as-in-01 : {x : Edge} {s : Settings} {memory registers result : List ℕ} {start codes budget : ℕ} → s ≡ asIn01
-    → x ≡ replayedBy 40 resultWords false s memory registers result start codes budget → x ≡ replayed memory registers result start codes budget
-unfolding replayed
-as-in-01 e h = cc
+-- document 01's replay is that of its own settings, and with settings by their numbers it is that of the settings that they choose
+module _ (memory registers result : List ℕ) (start codes budget : ℕ) where
+  pub as-in-01 : (x : Edge) (s : Settings) → s ≡ asIn01 → x ≡ replayedBy 40 resultWords false s memory registers result start codes budget
+      → x ≡ replayed memory registers result start codes budget
+  unfolding replayed
+  as-in-01 x s e h = cc
 
--- and with settings by their numbers it is that of the settings that they choose
-module _ {m : Numbers} {memory registers result : List ℕ} {start codes budget : ℕ} {chosen : Bool} (c : chosen ≡ numbersRefused m (length memory)) where
-  pub as-chosen : {x : Edge} {s : Settings} → s ≡ settingsOf m
-      → x ≡ replayedBy 88 fullWords chosen s memory registers result start codes budget → x ≡ replayedSet m memory registers result start codes budget
-  unfolding replayedSet
-  as-chosen e h = cc
+  module _ (m : Numbers) (chosen : Bool) (c : chosen ≡ numbersRefused m (length memory)) where
+    pub as-chosen : (x : Edge) (s : Settings) → s ≡ settingsOf m → x ≡ replayedBy 88 fullWords chosen s memory registers result start codes budget
+        → x ≡ replayedSet m memory registers result start codes budget
+    unfolding replayedSet
+    as-chosen x s e h = cc
 
-  pub refused-as-chosen : {n : ℕ} → n ≡ replayRefusal 88 chosen (length memory) (length registers) (length result) start codes budget → (n ≡ 0 → ⊥)
-      → edge n memory registers result ≡ replayedSet m memory registers result start codes budget
-  refused-as-chosen h z = as-chosen refl (refuses 88 fullWords chosen (settingsOf m) memory registers result start codes budget _ h z)
+    pub refused-as-chosen : (n : ℕ) → n ≡ replayRefusal 88 chosen (length memory) (length registers) (length result) start codes budget → (n ≡ 0 → ⊥)
+        → edge n memory registers result ≡ replayedSet m memory registers result start codes budget
+    refused-as-chosen n h z = as-chosen _ _ refl (refuses 88 fullWords chosen (settingsOf m) memory registers result start codes budget n h z)

@@ -47,7 +47,7 @@ returns-2 c =
     let settings : tie.After-as-in-01 = search in
     let allows : tie.Else1 = search in
     let tested : tie.After-refusal = search in
-    as-in-01 (settings .as-in-01 .ensures)
+    as-in-01 _ _ _ _ _ _ _ _ (settings .as-in-01 .ensures)
     (replays _ resultWords _ _ _ _ _ _ _ _ _ (tested .refusal .ensures) _ _ _ _ (allows .if1 .left) (run .replay .ensures) (answered .write-result .ensures))
 
 pub y86-replay-spec : {M : Type 1} → statement M

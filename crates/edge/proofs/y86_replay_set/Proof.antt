@@ -19,7 +19,7 @@ returns : tie.Need-returns
 returns c =
     let tested : tie.After-refusal = search in
     let ranged : tie.After-numbers-refused = search in
-    refused-as-chosen (ranged .numbers-refused .ensures) (tested .refusal .ensures) (c .if1 .taken)
+    refused-as-chosen _ _ _ _ _ _ _ _ (ranged .numbers-refused .ensures) _ (tested .refusal .ensures) (c .if1 .taken)
 
 settings-of-requires : tie.Need-settings-of-requires
 settings-of-requires c κs =
@@ -58,7 +58,7 @@ returns-2 c =
     let allows : tie.Else1 = search in
     let tested : tie.After-refusal = search in
     let ranged : tie.After-numbers-refused = search in
-    as-chosen (ranged .numbers-refused .ensures) (settings .settings-of .ensures)
+    as-chosen _ _ _ _ _ _ _ _ (ranged .numbers-refused .ensures) _ _ (settings .settings-of .ensures)
     (replays _ fullWords _ _ _ _ _ _ _ _ _ (tested .refusal .ensures) _ _ _ _ (allows .if1 .left) (run .replay .ensures) (answered .write-full .ensures))
 
 pub y86-replay-set-spec : {M : Type 1} → statement M
