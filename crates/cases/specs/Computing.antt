@@ -5,5 +5,6 @@ use Rattle.replay_ends.specs.Ends
 use Rattle.edge.specs.Edge
 
 unfoldable pub computing : Unit {0}
-unfolding Computing.computing Block.wordsIn Block.withWords Block.codesFrom Ends.edgeRefusal Ends.resultWords Edge.edgeDone Edge.edgeRun Edge.replayed
+unfolding Computing.computing Block.wordsIn Block.withWords Block.codesFrom Ends.windowOf Ends.settingsOf Ends.numbersRefused Ends.replayRefusal Ends.resultWords Ends.fullWords
+    Edge.edgeDone Edge.edgeRun Edge.replayedBy Edge.replayed Edge.replayedSet
 computing = tt

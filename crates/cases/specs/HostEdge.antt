@@ -7,8 +7,8 @@ use mathlib.Core.Path.{_≡_, refl}
 use lib.Dec.{eqb}
 use lib.ListN.{length, replicate}
 use Rattle.machine.specs.Words.{number}
-use Rattle.replay_ends.specs.Ends.{edgeRefusal}
-use Rattle.edge.specs.Edge.{Edge, edge, replayed}
+use Rattle.replay_ends.specs.Ends.{Numbers, numbers as chosen, replayRefusal, edgeRefusal, numbersRefused}
+use Rattle.edge.specs.Edge.{Edge, edge, replayedBy, replayed, replayedSet}
 use Rattle.records.specs.Given.{image}
 use Rattle.records.specs.Looks.{Row, Look, answers, numbers, failing}
 use Rattle.cases.specs.Computing.{computing}
@@ -38,6 +38,38 @@ word a r = number 8 (r .memory) a
 -- the number with these sizes, start, codes and budget
 abbrev refuses : String → ℕ → (memory registers result start codes budget : ℕ) → Row
 refuses s n m r b a c y = numbers s (edgeRefusal m r b a c y ∷ []) (n ∷ [])
+
+-- with settings by their numbers: rule, late, windowed, first, end
+abbrev set : String → Numbers → (size bytes written start codes budget : ℕ) → List (Look Edge) → Row
+set s t n k x a c b = answers s (replayedSet t (image n k x .bytes) (rising 100 15) (replicate 88 9) a c b)
+
+-- the number with these settings, in 16 bytes of memory and with a result block of 88
+abbrev refusesSet : String → Numbers → ℕ → Row
+refusesSet s t n = numbers s (replayRefusal 88 (numbersRefused t 16) 16 120 88 0 4 9 ∷ []) (n ∷ [])
+
+unfoldable pub rowsOfSettings : List Row
+rowsOfSettings =
+    set "R15.5 all eleven words: a later byte missing" (chosen 0 0 0 9 9) 2 2 0x10_30 0 3 9
+    ((answer, 0) ∷ (result 0, 3) ∷ (result 1, 1) ∷ (result 2, 3) ∷ (result 3, 2) ∷ (result 4, 6) ∷ (result 5, 0) ∷ (result 6, 0) ∷ (result 7, 0) ∷ (result 8, 0)
+    ∷ (result 9, 4) ∷ (result 10, 2) ∷ [])
+    ∷ set "R15.5 a jump that is not taken, by rule 0" (chosen 0 0 0 0 0) 10 9 0x74_0900000000000000 0 4 20
+    ((result 0, 2) ∷ (result 4, 8) ∷ (result 6, 2) ∷ [])
+    ∷ set "R15.5 a jump that is not taken, by rule 1" (chosen 1 0 0 0 0) 10 9 0x74_0900000000000000 0 4 20
+    ((result 0, 2) ∷ (result 4, 6) ∷ (result 6, 0) ∷ [])
+    ∷ set "R15.5 a window: its end is the lowest missing address" (chosen 0 0 1 0 3) 5 5 0x10_60_00_0000 0 4 20 ((result 0, 2) ∷ [])
+    ∷ set "R15.5 a window that cuts an instruction" (chosen 0 0 1 0 2) 5 5 0x10_60_00_0000 0 4 20 ((result 0, 3) ∷ (result 1, 1) ∷ (result 9, 4) ∷ (result 10, 2) ∷ [])
+    ∷ set "R15.5 an empty window stops at the first instruction" (chosen 0 0 1 2 2) 5 5 0x10_60_00_0000 0 4 20
+    ((result 0, 3) ∷ (result 1, 0) ∷ (result 9, 1) ∷ (result 10, 0) ∷ [])
+    ∷ set "R15.5 5 changes nothing" (chosen 3 0 0 0 0) 5 5 0x10_60_00_0000 0 4 20 ((answer, 5) ∷ (result 0, 0x0909090909090909) ∷ (register 0, 100) ∷ [])
+    ∷ refusesSet "R15.5 each number at its end" (chosen 2 1 1 16 16) 0
+    ∷ refusesSet "R15.5 5: a rule over 2" (chosen 3 0 0 0 0) 5
+    ∷ refusesSet "R15.5 5: late over 1" (chosen 0 2 0 0 0) 5
+    ∷ refusesSet "R15.5 5: windowed over 1" (chosen 0 0 2 0 0) 5
+    ∷ refusesSet "R15.5 5: a first above N" (chosen 0 0 1 17 17) 5
+    ∷ refusesSet "R15.5 5: an end above N" (chosen 0 0 1 0 17) 5
+    ∷ refusesSet "R15.5 5: an end below the first" (chosen 0 0 1 9 8) 5
+    ∷ refusesSet "R15.5 first and end are looked at only with a window" (chosen 0 0 0 99 8) 0
+    ∷ []
 
 unfoldable pub rowsOfReplays : List Row
 rowsOfReplays =
@@ -89,13 +121,13 @@ rowsOfRefusals =
     ∷ []
 
 -- every row holds: of each list none is failing
-pub edge-rows-hold : (failing rowsOfReplays ≡ []) × (failing rowsOfBytes ≡ []) × (failing rowsOfRefusals ≡ [])
-unfolding failing computing rowsOfReplays rowsOfBytes rowsOfRefusals
-edge-rows-hold = (refl, refl, refl)
+pub edge-rows-hold : (failing rowsOfReplays ≡ []) × (failing rowsOfBytes ≡ []) × (failing rowsOfRefusals ≡ []) × (failing rowsOfSettings ≡ [])
+unfolding failing computing rowsOfReplays rowsOfBytes rowsOfRefusals rowsOfSettings
+edge-rows-hold = (refl, refl, refl, refl)
 
 -- "number, nothing changed", by whatever number it is refused
 pub edge-unchanged : (m registers result : List ℕ) (start codes budget : ℕ)
     → let n = edgeRefusal (length m) (length registers) (length result) start codes budget in
     eqb n 0 ≡ false → replayed m registers result start codes budget ≡ edge n m registers result
-unfolding replayed
+unfolding replayed replayedBy
 edge-unchanged m registers result start codes budget h = rw h

@@ -15,7 +15,7 @@ use Rattle.clocked.specs.PipeRuns.{PipeAnswer, pipeAnswer, pipeRunUnlogged}
 use Rattle.account.specs.Statement.{Start, plainFrom, pipedFrom}
 use Rattle.block.specs.Block.{wordsIn, codesFrom}
 use Rattle.replay_ends.specs.Ends.{edgeRefusal, resultWords}
-use Rattle.edge.specs.Edge.{Edge, edge, edgeDone, edgeRun, replayed}
+use Rattle.edge.specs.Edge.{Edge, edge, edgeDone, edgeRun, replayedBy, replayed}
 use Rattle.report_lines.specs.Lines.{countLines}
 use Rattle.report.specs.Report.{endLines, report, imageRefused, imageStart, imageRun, reported}
 use Rattle.junk.specs.Statement.{DifferOnlyAt, AtMost, NoPart, SameRecord}
@@ -39,7 +39,7 @@ module _ (m m′ registers result : List ℕ) (start codes : ℕ) where
   abbrev given : Start
   given = edgeStart asIn01 m registers start codes
 
-  done-same : (o o′ : PipeAnswer) → SamePipeAnswer (lent m) (lent m′) o o′ → SameEdge m m′ (edgeDone o registers result) (edgeDone o′ registers result)
+  done-same : (o o′ : PipeAnswer) → SamePipeAnswer (lent m) (lent m′) o o′ → SameEdge m m′ (edgeDone resultWords o registers result) (edgeDone resultWords o′ registers result)
   unfolding edgeDone resultWords
   done-same o o′ h =
       let k = h .pipeline in
@@ -54,14 +54,14 @@ module _ (m m′ registers result : List ℕ) (start codes : ℕ) where
   pub edge-no-part : DifferOnlyAt (NoPart (plainFrom given)) (lent m) (lent m′)
       → (n : ℕ) → isStopped (steps (plainFrom given) n) ≡ true → Premise (plainFrom given) n
       → (budget : ℕ) → SameEdge m m′ (replayed m registers result start codes budget) (replayed m′ registers result start codes budget)
-  unfolding replayed edgeRun wordsIn pipedFrom
+  unfolding replayed replayedBy edgeRun wordsIn pipedFrom
   edge-no-part d n h u budget = rw (sym (d .sizes)) (go (eqb refusal 0))
     where
       refusal : ℕ
       refusal = edgeRefusal (length m) (length registers) (length result) start codes budget
 
-      go : (b : Bool) → SameEdge m m′ (cond b (edgeDone (edgeRun m registers start codes budget) registers result) (edge refusal m registers result))
-          (cond b (edgeDone (edgeRun m′ registers start codes budget) registers result) (edge refusal m′ registers result))
+      go : (b : Bool) → SameEdge m m′ (cond b (edgeDone resultWords (edgeRun asIn01 m registers start codes budget) registers result) (edge refusal m registers result))
+          (cond b (edgeDone resultWords (edgeRun asIn01 m′ registers start codes budget) registers result) (edge refusal m′ registers result))
       go true = done-same _ _ (runs-same NoPart no-part given (lent m′) refl d n h u .2 budget)
       go false = record { answer = refl; registers = refl; result = refl; memory = record { rest = refl; sizes = d .sizes; only = λ x e. e } }
 

@@ -10,7 +10,8 @@ use Rattle.clocked.specs.PipeRuns.{pipeStarted, PipeAnswer, pipeClock, pipeRun,
 use Rattle.account.specs.Statement.{Start}
 use Rattle.peaks.specs.declared.Answer.{Answer}
 use Rattle.peaks.specs.Day.{judged}
-use Rattle.edge.specs.Edge.{Edge, replayed}
+use Rattle.edge.specs.Edge.{Edge, replayed, replayedSet}
+use Rattle.replay_ends.specs.Ends.{Numbers}
 use Rattle.day_edge.specs.Days.{DayAt, dayAnswer}
 use Rattle.encoding.specs.Encode.{Fields}
 use Rattle.writing_edge.specs.Writings.{Written, encoded, listingWritten}
@@ -73,6 +74,11 @@ pipe-run-unlogged = promising (Pipeline × Memory × ℕ) PipeAnswer (λ x. pipe
 abbrev pub host-edge : Operation
 host-edge =
     promising (List ℕ × List ℕ × List ℕ × ℕ × ℕ × ℕ) Edge (λ x. replayed (x .0) (x .1) (x .2) (x .3) (x .4) (x .5))
+
+-- edge::y86_replay_set: the same with the settings by their numbers
+abbrev pub replay-set : Operation
+replay-set =
+    promising (Numbers × List ℕ × List ℕ × List ℕ × ℕ × ℕ × ℕ) Edge (λ x. replayedSet (x .0) (x .1) (x .2) (x .3) (x .4) (x .5) (x .6))
 
 -- together::run_both: the start, the copy of memory for the pipeline, both budgets, the plain engine's log and the pipeline's two
 abbrev pub run-both : Operation

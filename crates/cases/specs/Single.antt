@@ -8,7 +8,7 @@ use Rattle.clocked.specs.PipeRuns.{pipeAnswer}
 use Rattle.edge.specs.Edge.{edge}
 use Rattle.cases.specs.Names.{Machine, Pipeline}
 use Rattle.cases.specs.Promises.{Operation, Fits, Promise, fetching, plain-start, plain-step, plain-run, pipe-start, pipe-clock, pipe-run}
-use Rattle.cases.specs.Promises.{pipe-run-unlogged, host-edge, run-both, day-judged, day-exported, instruction-encoded, listing-written, input-reported}
+use Rattle.cases.specs.Promises.{pipe-run-unlogged, host-edge, replay-set, run-both, day-judged, day-exported, instruction-encoded, listing-written, input-reported}
 
 -- two answers that both meet the promise for the same input are equal: number, record, all lent bytes and words
 abbrev pub OneAnswer : Operation → Type 0
@@ -47,6 +47,9 @@ one-pipe-run-unlogged = one-answer pipe-run-unlogged
 
 pub one-host-edge : OneAnswer host-edge
 one-host-edge = one-answer host-edge
+
+pub one-replay-set : OneAnswer replay-set
+one-replay-set = one-answer replay-set
 
 pub one-run-both : OneAnswer run-both
 one-run-both = one-answer run-both

@@ -22,7 +22,8 @@ use Rattle.published.specs.Fetching.{M₁}
 use Rattle.account.specs.Statement.{Start, plainFrom, pipedFrom, DueBy, keptOf, Agrees}
 use Rattle.account.specs.Timing.{up-to}
 use Rattle.account.specs.Retirement.{clock-any}
-use Rattle.account.specs.Uses.{due-only, untouched-on, always}
+use Rattle.account.specs.Uses.{due-only, always}
+use Rattle.account.specs.Sight.{premise-seen, seen-on}
 use Rattle.account.specs.Midrun.{Landed, always-in-mid-run}
 use Rattle.junk.specs.Statement.{looked, looksAt, readsByte, NoPart, NoPartAsIn01, DifferOnlyAt, AtMost, imaged, SameStep, SameClock, BytesThatPlayNoPart}
 use Rattle.junk.specs.Bytes.{Alike, looked-within}
@@ -212,17 +213,18 @@ module _ (t : Start) (m′ : Memory) (d : DifferOnlyAt (NoPart (plainFrom t)) (t
       }
 
   -- THE PIPELINE: demand 3 on both
-  pub pipe-part : (g : Core) → length (t .registers) ≡ 15 → ((K : ℕ) → Premise (plainFrom t) K)
+  pub pipe-part : (g : Core) → length (t .registers) ≡ 15 → (n : ℕ) → isStopped (steps (plainFrom t) n) ≡ true → Premise (plainFrom t) n
       → (c : ℕ) → SameClock (t .memory) m′ (clocks g (pipedFrom t) c) (clocks g (pipedFrom (imaged t m′)) c)
   unfolding pipedFrom pipeStart
-  pipe-part g l u =
+  pipe-part g l n h p =
       let t′ = imaged t m′ in
-      let u′ : (K : ℕ) → Premise (plainFrom t′) K = λ K. second-premise K (u K) in
+      let u = seen-on g (plainFrom t) n h (premise-seen g (plainFrom t) n p) in
+      let u′ = seen-on g (plainFrom t′) n (sym (second-stops n) ∙ h) (premise-seen g (plainFrom t′) n (second-premise n p)) in
       same-clocks (t .memory) m′ g (plainFrom t) (plainFrom t′) histories (pipedFrom t) (pipedFrom t′) refl refl (always g t l u) (always g t′ l u′) (always-in-mid-run g t l u)
       (always-in-mid-run g t′ l u′)
 
 pub no-part : BytesThatPlayNoPart NoPart
-no-part g t m′ l d budget stops u = (plain-part t m′ d, pipe-part t m′ d g l (untouched-on (plainFrom t) budget stops u))
+no-part g t m′ l d budget stops u = (plain-part t m′ d, pipe-part t m′ d g l budget stops u)
 
 -- and so may what is outside the instructions' bytes, for fetch looks at no others
 looks-within : (s : Plain) (x : ℕ) → hasByte s x ≡ false → looksAt s x ≡ false

@@ -16,12 +16,13 @@ ghost use Rattle.day_edge.specs.Days.{dayAt};
 ghost use Rattle.encoding.specs.Encode.{fields};
 ghost use Rattle.writing_edge.specs.Writings.{written};
 ghost use Rattle.edge.specs.Edge.{edge};
+ghost use Rattle.replay_ends.specs.Ends.{numbers};
 ghost use Rattle.listing_edge.specs.Listings.{listingEdge};
 ghost use Rattle.together.specs.Both.{startOf, bothAnswer};
 ghost use Rattle.cases.specs.Promises.{Fits, fetching, plain-start, plain-step, plain-run};
 ghost use Rattle.cases.specs.Listings.{listing-read, edge-listing};
 ghost use Rattle.cases.specs.Program.{report-image, image-run, write-report};
-ghost use Rattle.cases.specs.Promises.{pipe-start, pipe-clock, pipe-run, pipe-run-unlogged, host-edge, run-both};
+ghost use Rattle.cases.specs.Promises.{pipe-start, pipe-clock, pipe-run, pipe-run-unlogged, host-edge, replay-set, run-both};
 ghost use Rattle.cases.specs.Promises.{day-judged, day-exported, instruction-encoded, listing-written, input-reported};
 
 fn fetch(memory: &[u8], address: u64) -> FetchAnswer
@@ -105,6 +106,37 @@ fn host_edge(
         (edge r (now (memory .exit)) (now (registers .exit)) (now (result .exit))) ⌝ }
 {
     edge::y86_replay(memory, registers, result, start, codes, budget)
+}
+
+fn replay_set(
+    memory: &mut [u8],
+    registers: &mut [u8],
+    result: &mut [u8],
+    start: u64,
+    codes: u64,
+    budget: u64,
+    rule: u64,
+    late: u64,
+    windowed: u64,
+    first: u64,
+    end: u64,
+) -> u64
+    ensures { λ r. ⌜ Fits replay-set (numbers rule late windowed first end, now (memory .entry), now (registers .entry), now (result .entry), start, codes, budget)
+        (edge r (now (memory .exit)) (now (registers .exit)) (now (result .exit))) ⌝ }
+{
+    edge::y86_replay_set(
+        memory,
+        registers,
+        result,
+        start,
+        codes,
+        budget,
+        rule,
+        late,
+        windowed,
+        first,
+        end,
+    )
 }
 
 fn both(

@@ -43,7 +43,7 @@ replayRefusal block chosen memory registers result start codes budget =
     ∷ (6, startRefused memory start) ∷ [])
 
 -- document 01's replay has no settings to refuse
-unfoldable pub edgeRefusal : (memory registers result start codes budget : ℕ) → ℕ
+abbrev pub edgeRefusal : (memory registers result start codes budget : ℕ) → ℕ
 edgeRefusal = replayRefusal 40 false
 
 -- THE RESULT WORDS: "status (AOK if the budget was spent), last address, codes, retired, cycles."

@@ -12,7 +12,8 @@ use Rattle.machine.specs.Plain.{Plain, isStopped, steps}
 use Rattle.clocked.specs.Charges.{due}
 use Rattle.clocked.specs.Prediction.{core01, asIn01}
 use Rattle.clocked.specs.Pipeline.{Piped, pipeStart, clocks}
-use Rattle.clocked.specs.PipeRuns.{PipeAnswer, pipeDone}
+use Rattle.clocked.specs.PipeRuns.{PipeAnswer, pipeDone, settingsRefused}
+use Rattle.machine.specs.Runs.{windowRefused}
 use Rattle.account.specs.Statement.{Start, plainFrom, pipedFrom, DueBy, Agrees}
 use Rattle.account.specs.Seen.{Seen}
 use Rattle.account.specs.Sight.{seen-on}
@@ -22,7 +23,7 @@ use Rattle.account.specs.Midrun.{Landed, in-mid-run}
 use Rattle.account.specs.TwoRuns.{unlogged-ran}
 use Rattle.block.specs.Block.{wordsIn, withWords, codesFrom}
 use Rattle.replay_ends.specs.Ends.{edgeRefusal, resultWords}
-use Rattle.edge.specs.Edge.{Edge, edge, edgeDone, edgeRun, replayed}
+use Rattle.edge.specs.Edge.{Edge, edge, edgeDone, edgeRun, replayedBy, replayed}
 use Rattle.edge.specs.Checked.{runs-inside}
 
 -- "until the stop, and none after": the cycles counted in so many clocks, when n instructions have retired
@@ -49,12 +50,21 @@ module _ (memory registers result : List ℕ) (start codes budget : ℕ) where
   answered = replayed memory registers result start codes budget
 
   module _ (h : edgeRefusal (length memory) (length registers) (length result) start codes budget ≡ 0) where
+    -- document 01's settings are never refused
+    known : settingsRefused asIn01 ≡ false
+    unfolding settingsRefused
+    known = refl
+
+    whole : windowRefused (asIn01 .window) (length memory) ≡ false
+    unfolding windowRefused
+    whole = refl
+
     -- what the edge lets in is run
-    ran : answered ≡ edgeDone (pipeDone piped [] []) registers result
-    unfolding replayed edgeRun pipedFrom pipeStart
+    ran : answered ≡ edgeDone resultWords (pipeDone piped [] []) registers result
+    unfolding replayed replayedBy edgeRun pipedFrom pipeStart
     ran =
-        let inside = runs-inside memory registers result start codes budget h in
-        rw h (ap (λ (o : PipeAnswer). edgeDone o registers result) (unlogged-ran _ (lentMemory memory) budget inside .0))
+        let inside = runs-inside 40 false asIn01 memory registers result start codes budget known whole h in
+        rw h (ap (λ (o : PipeAnswer). edgeDone resultWords o registers result) (unlogged-ran _ (lentMemory memory) budget inside .0))
 
     -- so it shows the plain history where demand 3 holds of the pipeline
     shows : (n : ℕ) → Agrees core01 (plainFrom lent) piped budget n
