@@ -56,12 +56,6 @@ pub fn registers(path: Option<&Path>) -> Result<Source, Fault> {
     }
 }
 
-/// A refusal, with what it means.
-pub fn refused(number: u64, given: &Given, image: &Source, registers: &Source) -> Fault {
-    let why = refusal(number, given, image, registers);
-    Fault::new(Fault::REFUSED, format!("refused ({number}): {why}"))
-}
-
 /// The program's bytes have to be bytes of the image.
 fn check_program(given: &Given, image: &Source) -> Result<(), Fault> {
     let size = image.bytes.len();
@@ -76,7 +70,7 @@ fn check_program(given: &Given, image: &Source) -> Result<(), Fault> {
 
 /// What a refusal means, in words. Number 4 is not among them: the result
 /// block is this program's own, and has the right length.
-fn refusal(number: u64, given: &Given, image: &Source, registers: &Source) -> String {
+pub fn refusal(number: u64, given: &Given, image: &Source, registers: &Source) -> String {
     match number {
         1 => format!("{}; an image has 1 to 65,536", image.says()),
         2 => format!(

@@ -1,7 +1,7 @@
 //! `desk junk`: which bytes of an image play no part in its run (#112).
 
 use crate::inspect::{self, Source};
-use crate::replaying::{self, Given};
+use crate::replaying::{self, Given, Untold};
 use crate::Fault;
 use desk::second::account::Account;
 use desk::second::arithmetic::Codes;
@@ -43,9 +43,12 @@ pub fn report(asked: &Asked) -> Result<(String, u8), Fault> {
         start: asked.start,
         codes: asked.codes,
         budget: CYCLE_LIMIT,
+        program: None,
+        window: None,
     };
+    let words = |number| inspect::refusal(number, &given, &image, &registers);
     let shown = replayed(&image.bytes, &registers.bytes, given)
-        .map_err(|number| inspect::refused(number, &given, &image, &registers))?;
+        .map_err(|untold| untold.fault(words))?;
     let fresh = start(&image.bytes, &registers.bytes, given);
     let run = run(fresh, &image.bytes);
     let ranges = no_part(&played(
@@ -66,7 +69,7 @@ pub fn report(asked: &Asked) -> Result<(String, u8), Fault> {
 fn start(image: &[u8], registers: &[u8], given: Given) -> Plain {
     let codes = Codes::from_number(given.codes).expect("codes up to 7");
     let registers = read_registers(registers);
-    Plain::fresh(image.len() as u64, registers, codes, given.start).expect("a start")
+    Plain::fresh(image.len() as u64, registers, codes, given.start, None).expect("a start")
 }
 
 /// The plain run, by the second program.
@@ -92,9 +95,9 @@ struct Left {
 }
 
 /// A replay by the proved engine, long enough for any plain run that stops.
-fn replayed(image: &[u8], registers: &[u8], given: Given) -> Result<Left, u64> {
+fn replayed(image: &[u8], registers: &[u8], given: Given) -> Result<Left, Untold> {
     let (mut memory, mut registers) = (image.to_vec(), registers.to_vec());
-    let told = replaying::replay(false, &mut memory, &mut registers, given)?;
+    let told = replaying::replay(false, &mut memory, &mut registers, &given)?;
     let end = told.outcome;
     Ok(Left {
         words: [end.status, end.last, end.codes, end.retired, end.cycles],

@@ -8,6 +8,7 @@ use common::tally::{Classes, Tally};
 use desk::engine::{self, ReadListing, WriteListing};
 use desk::generate::{Range, Ranges};
 use desk::second::fetch::fetch;
+use desk::second::memory::Memory;
 use desk::second::{listing, writing, Status};
 use std::collections::BTreeMap;
 
@@ -111,6 +112,10 @@ struct Lines {
 impl Lines {
     fn count(&mut self, memory: &[u8], text: &[u8]) {
         let text = std::str::from_utf8(text).expect("ASCII");
+        let only_read = Memory {
+            program: memory,
+            writable: &mut [],
+        };
         for line in text.lines() {
             let mut fields = line.split('\t');
             let address = fields.next().expect("an address");
@@ -120,7 +125,7 @@ impl Lines {
                     let name = remark.split(' ').next().expect("a name");
                     *self.names.entry(name.into()).or_default() += 1;
                 }
-                None => match fetch(memory, address) {
+                None => match fetch(&only_read, None, address) {
                     Err(stop) if stop.status != Status::Hlt => self.single += 1,
                     _ => self.crossing += 1,
                 },

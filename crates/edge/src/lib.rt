@@ -12,6 +12,11 @@ ghost use Rattle.writing_edge.specs.Writings.{written, encoded, listingWritten}
 ghost use Rattle.edge.specs.Edge.{edge, replayed, replayedSet};
 ghost use Rattle.replay_ends.specs.Ends.{numbers};
 
+// The result blocks: five words, and all eleven.
+const RESULT_BYTES: usize = 40;
+
+const FULL_BYTES: usize = 88;
+
 // One pipelined run without logs from a fresh start.
 #[no_mangle]
 pub extern "C" fn y86_replay(
@@ -26,7 +31,7 @@ pub extern "C" fn y86_replay(
         ≡ replayed (now (memory .entry)) (now (registers .entry)) (now (result .entry)) start codes budget ⌝ }
 {
     let number = replay_ends::refusal(
-        replay_ends::RESULT_BYTES,
+        RESULT_BYTES,
         false,
         memory.len(),
         registers.len(),
@@ -63,7 +68,7 @@ pub extern "C" fn y86_replay_set(
 {
     let chosen = numbers_refused(rule, late, windowed, first, end, memory.len());
     let number = replay_ends::refusal(
-        replay_ends::FULL_BYTES,
+        FULL_BYTES,
         chosen,
         memory.len(),
         registers.len(),

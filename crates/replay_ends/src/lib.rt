@@ -11,12 +11,8 @@ ghost use lib.ListN.{length};
 ghost use Rattle.block.specs.Block.{withWords};
 ghost use Rattle.replay_ends.specs.Ends.{replayRefusal, resultWords, fullWords};
 
-// The lent blocks: fifteen registers, five result words, or all eleven; and the greatest number that codes have.
+// The block of fifteen registers, and the greatest number that codes have.
 const REGISTER_BYTES: usize = 120;
-
-pub const RESULT_BYTES: usize = 40;
-
-pub const FULL_BYTES: usize = 88;
 
 const MOST_CODES: u64 = 7;
 
@@ -72,21 +68,21 @@ pub fn write_result(result: &mut [u8], end: Pipeline)
 }
 
 // All eleven: with them the cycles by kind, and what a bad fetch is blamed on.
-pub fn write_full(result: &mut [u8], end: Pipeline)
+pub fn write_full(result: &mut [u8], last: Pipeline)
     requires { ⌜ length (now result) ≡ 88 ⌝ }
-    ensures { λ _. ⌜ now (result .exit) ≡ withWords (fullWords end) (now (result .entry)) 0 ⌝ }
+    ensures { λ _. ⌜ now (result .exit) ≡ withWords (fullWords last) (now (result .entry)) 0 ⌝ }
 {
-    let status = end.status;
-    let codes = end.codes;
-    let kinds = end.kinds;
-    let blame = end.blame;
+    let status = last.status;
+    let codes = last.codes;
+    let kinds = last.kinds;
+    let blame = last.blame;
     let fault = blame.fault;
     let words = [
         status_number(status),
-        end.last,
+        last.last,
         answers::codes_number(codes),
-        end.retired,
-        end.cycles,
+        last.retired,
+        last.cycles,
         kinds.loaduse,
         kinds.mispredict,
         kinds.returned,

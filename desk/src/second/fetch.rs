@@ -94,9 +94,9 @@ pub fn own_bytes(memory: &Memory, window: Option<Window>, address: u64) -> Range
 /// The bytes of an instruction that its fetch looks at: none, where the first
 /// is missing; the first alone, where code and function decide, or that a later
 /// one is missing; two, where the register byte does; else all (#112).
-pub fn looked_at(memory: &[u8], address: u64) -> std::ops::Range<u64> {
-    let own = own_bytes(memory, address);
-    let most = match fetch(memory, address) {
+pub fn looked_at(memory: &Memory, window: Option<Window>, address: u64) -> Range<u64> {
+    let own = own_bytes(memory, window, address);
+    let most = match fetch(memory, window, address) {
         Ok(_) => own.end,
         Err(stop) => match stop.reason {
             Reason::None => own.end,

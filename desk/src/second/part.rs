@@ -3,25 +3,27 @@
 
 use super::fetch::{fetch, looked_at, Parts};
 use super::machine::{Status, RSP};
+use super::memory::Memory;
 use super::plain::Plain;
 use super::table::{MRMOVQ, POPQ, RET};
-use super::word;
 use std::ops::Range;
 
 /// For each byte of memory, whether one of the next instructions, at most so
 /// many, fetches or reads it. Memory and record are left as the last of them
 /// left them.
-pub fn played(machine: &mut Plain, memory: &mut [u8], most: u64) -> Vec<bool> {
-    let mut played = vec![false; memory.len()];
+pub fn played(machine: &mut Plain, bytes: &mut [u8], most: u64) -> Vec<bool> {
+    let mut played = vec![false; bytes.len()];
+    let mut memory = Memory::from(bytes);
     for _ in 0..most {
         if machine.status != Status::Aok {
             break;
         }
-        mark(&mut played, looked_at(memory, machine.address));
-        if let Ok(parts) = fetch(memory, machine.address) {
-            mark(&mut played, read(machine, memory, &parts));
+        let window = machine.window;
+        mark(&mut played, looked_at(&memory, window, machine.address));
+        if let Ok(parts) = fetch(&memory, window, machine.address) {
+            mark(&mut played, read(machine, &memory, &parts));
         }
-        machine.perform(memory);
+        machine.perform(&mut memory);
     }
     played
 }
@@ -44,13 +46,13 @@ fn mark(played: &mut [bool], bytes: Range<u64>) {
 
 /// The bytes that an instruction reads as data, by the record as it stands
 /// before it; a load outside memory reads none.
-fn read(before: &Plain, memory: &[u8], parts: &Parts) -> Range<u64> {
+fn read(before: &Plain, memory: &Memory, parts: &Parts) -> Range<u64> {
     let at = match parts.code {
         MRMOVQ => before.registers.get(parts.rb).wrapping_add(parts.constant),
         POPQ | RET => before.registers.get(RSP),
         _ => return 0..0,
     };
-    match word::load(memory, at) {
+    match memory.load(at) {
         Some(_) => at..at + 8,
         None => 0..0,
     }

@@ -1,5 +1,6 @@
 //! Writing a listing of memory: document 02's #104.
 
+use super::memory::Memory;
 use super::fetch::{fetch, Parts};
 use super::machine::{check_memory, Refusal, Status, REGISTER_NAMES};
 use super::table;
@@ -53,7 +54,11 @@ fn notation(parts: Parts) -> String {
 /// The remark of the instruction that starts at an address; nothing where the
 /// byte starts none.
 fn remark(memory: &[u8], address: usize) -> Option<String> {
-    match fetch(memory, address as u64) {
+    let only_read = Memory {
+        program: memory,
+        writable: &mut [],
+    };
+    match fetch(&only_read, None, address as u64) {
         Ok(parts) => Some(notation(parts)),
         Err(stop) if stop.status == Status::Hlt => Some("halt".into()),
         Err(_) => None,
