@@ -56,7 +56,7 @@ rowsOfSettings =
     ((result 0, 2) ∷ (result 4, 8) ∷ (result 6, 2) ∷ [])
     ∷ set "R15.5 a jump that is not taken, by rule 1" (chosen 1 0 0 0 0) 10 9 0x74_0900000000000000 0 4 20
     ((result 0, 2) ∷ (result 4, 6) ∷ (result 6, 0) ∷ [])
-    ∷ set "R15.5 a window: its end is the lowest missing address" (chosen 0 0 1 0 3) 5 5 0x10_60_00_0000 0 4 20 ((result 0, 2) ∷ [])
+    ∷ set "R15.5 an instruction behind the window" (chosen 0 0 1 0 3) 5 5 0x10_60_00_0000 0 4 20 ((result 0, 3) ∷ (result 1, 3) ∷ (result 9, 1) ∷ (result 10, 3) ∷ [])
     ∷ set "R15.5 a window that cuts an instruction" (chosen 0 0 1 0 2) 5 5 0x10_60_00_0000 0 4 20 ((result 0, 3) ∷ (result 1, 1) ∷ (result 9, 4) ∷ (result 10, 2) ∷ [])
     ∷ set "R15.5 an empty window stops at the first instruction" (chosen 0 0 1 2 2) 5 5 0x10_60_00_0000 0 4 20
     ((result 0, 3) ∷ (result 1, 0) ∷ (result 9, 1) ∷ (result 10, 0) ∷ [])

@@ -1,7 +1,7 @@
 -- "Cases (P: proved, in one table)": a line each, and the listings of 001 and 004.
 use Prim.Native.Nat.{ℕ, _-_, _^_}
 use mathlib.Core.Path.{_≡_, refl}
-use mathlib.Core.Bool.{true}
+use mathlib.Core.Bool.{true, false}
 use mathlib.Core.List.{List, [], _∷_}
 use Rattle.clocked.specs.Prediction.{asIn01}
 use Rattle.cases.specs.Names.{Status, hlt, adr, ins, Settings, noWindow, within}

@@ -184,7 +184,7 @@ pipe-idles = (differs pipeCycles 0 5 refl, differs pipeCycles 0 1 refl, differs 
 -- ONE THAT ALWAYS ANSWERS HLT
 -- a record with another status and count; with other registers, codes, status and count of cycles
 abbrev counting : Machine → Status → ℕ → Machine
-counting k s n = record { registers = k .registers; codes = k .codes; address = k .address; status = s; last = k .last; count = n; blame = k .blame }
+counting k s n = record { registers = k .registers; codes = k .codes; address = k .address; status = s; last = k .last; count = n; blame = k .blame; window = k .window }
 
 abbrev changed : Pipeline → Registers → Codes → Status → ℕ → Pipeline
 changed k r c s y =
@@ -239,7 +239,7 @@ plainWhole k m budget l =
 -- the plain engine's end in the first clock, and later what is there
 abbrev atOnce : Pipeline → Memory → Plain
 atOnce k m =
-    let s = plainOf (record { registers = k .registers; codes = k .codes; address = k .predicted; status = k .status; last = k .last; count = k .retired; blame = k .blame }) m in
+    let s = plainOf (record { registers = k .registers; codes = k .codes; address = k .predicted; status = k .status; last = k .last; count = k .retired; blame = k .blame; window = k .settings .window }) m in
     cond (eqb (k .cycles) 0) (whole plainLimit s) s
 
 -- memory alone is the plain engine's at its end; the codes alone are
