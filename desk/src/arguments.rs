@@ -3,17 +3,18 @@
 use crate::bench::Once;
 use crate::inspect::Asked;
 use crate::judge;
-use crate::junk;
 use crate::list;
 use crate::listing;
 use crate::replaying::Given;
 use crate::Fault;
-use desk::second::machine::PROGRAM_LIMIT;
+use desk::second::machine::{CYCLE_LIMIT, PROGRAM_LIMIT};
 use std::ffi::{OsStr, OsString};
 use std::path::PathBuf;
 
 /// The size of memory where none is given: the most that y86run holds.
 const SIZE: u64 = PROGRAM_LIMIT as u64;
+/// The cycle budget where none is given: y86run's.
+const BUDGET: u64 = 4_000;
 
 pub enum Command {
     Help,
@@ -21,7 +22,7 @@ pub enum Command {
     Read(listing::Asked),
     List(list::Asked),
     Peaks(judge::Asked),
-    Junk(junk::Asked),
+    Junk(Asked),
     Bench,
     Instructions,
     /// One replay without a time, for `bench --instructions` to count.
@@ -56,7 +57,7 @@ pub fn read(words: Vec<OsString>) -> Result<Command, Fault> {
 fn replay(words: &[OsString]) -> Result<Asked, Fault> {
     let mut options = Options::default();
     options.take("replay", words)?;
-    options.replay()
+    options.replay("replay", BUDGET)
 }
 
 /// The words after `desk list`.
@@ -74,10 +75,10 @@ fn peaks(words: &[OsString]) -> Result<judge::Asked, Fault> {
 }
 
 /// The words after `desk junk`.
-fn junk(words: &[OsString]) -> Result<junk::Asked, Fault> {
+fn junk(words: &[OsString]) -> Result<Asked, Fault> {
     let mut options = Options::default();
     options.take("junk", words)?;
-    options.junk()
+    options.replay("junk", CYCLE_LIMIT)
 }
 
 /// The words after `desk read`, in any order.
@@ -177,8 +178,8 @@ impl Options {
             ("replay" | "junk", "--registers") => Ok(&mut self.registers),
             ("list", "--from") => Ok(&mut self.from),
             ("list", "--to") => Ok(&mut self.to),
-            ("replay", "--program") => Ok(&mut self.program),
-            ("replay", "--window") => Ok(&mut self.window),
+            ("replay" | "junk", "--program") => Ok(&mut self.program),
+            ("replay" | "junk", "--window") => Ok(&mut self.window),
             ("peaks", "--table") => Ok(&mut self.table),
             ("peaks", "--length") => Ok(&mut self.length),
             ("peaks", "--filed") => Ok(&mut self.filed),
@@ -218,17 +219,6 @@ impl Options {
         })
     }
 
-    /// The image and the start that are asked for.
-    fn junk(mut self) -> Result<junk::Asked, Fault> {
-        Ok(junk::Asked {
-            image: self.image("junk")?,
-            listing: self.listing()?,
-            registers: self.registers.map(Into::into),
-            start: number_or("--start", self.start, 0)?,
-            codes: number_or("--codes", self.codes, 4)?,
-        })
-    }
-
     /// The listing that is asked for.
     fn list(mut self) -> Result<list::Asked, Fault> {
         Ok(list::Asked {
@@ -241,16 +231,16 @@ impl Options {
     }
 
     /// The replay that is asked for; options not given have the values of
-    /// y86run.
-    fn replay(mut self) -> Result<Asked, Fault> {
+    /// y86run, and the budget this one.
+    fn replay(mut self, command: &str, budget: u64) -> Result<Asked, Fault> {
         Ok(Asked {
-            image: self.image("replay")?,
+            image: self.image(command)?,
             listing: self.listing()?,
             registers: self.registers.map(Into::into),
             given: Given {
                 start: number_or("--start", self.start, 0)?,
                 codes: number_or("--codes", self.codes, 4)?,
-                budget: number_or("--budget", self.budget, 4_000)?,
+                budget: number_or("--budget", self.budget, budget)?,
                 program: size_of("--program", self.program)?,
                 window: window(self.window)?,
             },

@@ -32,9 +32,7 @@ pub struct Source {
 
 /// The text to show for a replay, and the exit status.
 pub fn replay(asked: &Asked) -> Result<(String, u8), Fault> {
-    let image = Source::image(&asked.image, asked.listing)?;
-    let file = registers(asked.registers.as_deref())?;
-    check_program(&asked.given, &image)?;
+    let (image, file) = files(asked)?;
     let (mut memory, mut registers) = (image.bytes.clone(), file.bytes.clone());
     let answer = replaying::replay(asked.second, &mut memory, &mut registers, &asked.given);
     let words = |number| refusal(number, &asked.given, &image, &file);
@@ -48,12 +46,15 @@ pub fn replay(asked: &Asked) -> Result<(String, u8), Fault> {
     Ok((text, report::exit_status(&told.outcome)))
 }
 
-/// The registers in a file, or all 0 where none is given.
-pub fn registers(path: Option<&Path>) -> Result<Source, Fault> {
-    match path {
-        Some(path) => Source::read(path, REGISTER_BYTES),
-        None => Ok(Source::zeros(REGISTER_BYTES)),
-    }
+/// The image and the registers that are asked for, all 0 where no file is.
+pub fn files(asked: &Asked) -> Result<(Source, Source), Fault> {
+    let image = Source::image(&asked.image, asked.listing)?;
+    let registers = match &asked.registers {
+        Some(path) => Source::read(path, REGISTER_BYTES)?,
+        None => Source::zeros(REGISTER_BYTES),
+    };
+    check_program(&asked.given, &image)?;
+    Ok((image, registers))
 }
 
 /// The program's bytes have to be bytes of the image.

@@ -1,34 +1,25 @@
 //! `desk junk`: which bytes of an image play no part in its run (#112).
 
-use crate::inspect::{self, Source};
-use crate::replaying::{self, Given, Untold};
+use crate::inspect::{self, Asked};
+use crate::replaying::{self, Given, Told, Untold};
 use crate::Fault;
 use desk::second::account::Account;
 use desk::second::arithmetic::Codes;
-use desk::second::machine::{CYCLE_LIMIT, PLAIN_LIMIT};
+use desk::second::machine::PLAIN_LIMIT;
+use desk::second::memory::Memory;
 use desk::second::part::{no_part, played};
 use desk::second::pipeline::Settings;
 use desk::second::plain::Plain;
 use desk::second::replay::read_registers;
+use desk::second::window::Window;
 use std::ops::Range;
-use std::path::PathBuf;
-
-/// An image and a start as the command line asks for them.
-pub struct Asked {
-    pub image: PathBuf,
-    /// Where the image is a listing: the size of memory.
-    pub listing: Option<u64>,
-    pub registers: Option<PathBuf>,
-    pub start: u64,
-    pub codes: u64,
-}
 
 /// How the plain run ends, and what demand 3's premise says of it.
 enum Run {
     /// It goes on beyond the limit.
     Endless,
-    /// Of so many instructions this one, counted from 1, is the first that
-    /// writes into one of the next three.
+    /// This instruction, counted from 1, is the first that writes into one of
+    /// the next three; so many are performed.
     Touched(usize, usize),
     /// It stops after so many, within the premise.
     Met(usize),
@@ -37,46 +28,41 @@ enum Run {
 /// The text to show, and the exit status: 0 where the bytes may hold anything,
 /// 1 where that is so of the plain engine alone, 2 where the run does not stop.
 pub fn report(asked: &Asked) -> Result<(String, u8), Fault> {
-    let image = Source::image(&asked.image, asked.listing)?;
-    let registers = inspect::registers(asked.registers.as_deref())?;
-    let given = Given {
-        start: asked.start,
-        codes: asked.codes,
-        budget: CYCLE_LIMIT,
-        program: None,
-        window: None,
-    };
-    let words = |number| inspect::refusal(number, &given, &image, &registers);
-    let shown = replayed(&image.bytes, &registers.bytes, given)
-        .map_err(|untold| untold.fault(words))?;
-    let fresh = start(&image.bytes, &registers.bytes, given);
-    let run = run(fresh, &image.bytes);
-    let ranges = no_part(&played(
-        &mut fresh.clone(),
-        &mut image.bytes.clone(),
-        PLAIN_LIMIT,
-    ));
+    let (image, file) = inspect::files(asked)?;
+    let given = &asked.given;
+    let words = |number| inspect::refusal(number, given, &image, &file);
+    let shown = Left::of(&image.bytes, &file.bytes, given).map_err(|untold| untold.fault(words))?;
+    let (run, ranges) = plain_run(&image.bytes, &file.bytes, given);
     let mut text = heading(&run);
     text += &lines(&ranges, image.bytes.len());
     if let Run::Met(_) = run {
-        tried(&image.bytes, &registers.bytes, given, &ranges, &shown)?;
+        tried(&image.bytes, &file.bytes, given, &ranges, &shown)?;
         text += "tried    the engine's replay with each of them changed: the same\n";
     }
     Ok((text, exit_status(&run)))
 }
 
-/// The plain engine at the start, which is not refused.
-fn start(image: &[u8], registers: &[u8], given: Given) -> Plain {
+/// The plain run by the second program, from a start that is not refused, and
+/// the bytes that play no part in it.
+fn plain_run(image: &[u8], registers: &[u8], given: &Given) -> (Run, Vec<Range<usize>>) {
+    let window = given.window.map(|(first, end)| Window { first, end });
     let codes = Codes::from_number(given.codes).expect("codes up to 7");
-    let registers = read_registers(registers);
-    Plain::fresh(image.len() as u64, registers, codes, given.start, None).expect("a start")
+    let (size, registers) = (image.len() as u64, read_registers(registers));
+    let fresh = Plain::fresh(size, registers, codes, given.start, window).expect("a start");
+    let (mut bytes, seam) = (image.to_vec(), given.program.unwrap_or(0));
+    let memory = Memory::split(&mut bytes, seam);
+    let played = played(&mut fresh.clone(), memory, PLAIN_LIMIT);
+    (judged(fresh, image.to_vec(), seam), no_part(&played))
 }
 
-/// The plain run, by the second program.
-fn run(mut machine: Plain, image: &[u8]) -> Run {
-    let mut memory = image.to_vec();
-    let most = PLAIN_LIMIT as usize;
-    let account = Account::of(&mut machine, &mut memory, most, Settings::default());
+/// How the run ends, by its account.
+fn judged(mut fresh: Plain, mut image: Vec<u8>, seam: usize) -> Run {
+    let settings = Settings {
+        window: fresh.window,
+        ..Settings::default()
+    };
+    let memory = Memory::split(&mut image, seam);
+    let account = Account::of(&mut fresh, memory, PLAIN_LIMIT as usize, settings);
     let (reach, all) = (account.premise_reach(), account.performed.len());
     match (account.stopped, reach == all) {
         (false, _) => Run::Endless,
@@ -85,26 +71,24 @@ fn run(mut machine: Plain, image: &[u8]) -> Run {
     }
 }
 
-/// What a replay leaves: what it tells, the registers, and memory.
-#[derive(PartialEq, Eq)]
+/// What a replay by the engine leaves, which is long enough for any plain run
+/// that stops.
 struct Left {
-    words: [u64; 5],
-    fault: Option<(u64, u64)>,
+    told: Told,
     registers: Vec<u8>,
     memory: Vec<u8>,
 }
 
-/// A replay by the proved engine, long enough for any plain run that stops.
-fn replayed(image: &[u8], registers: &[u8], given: Given) -> Result<Left, Untold> {
-    let (mut memory, mut registers) = (image.to_vec(), registers.to_vec());
-    let told = replaying::replay(false, &mut memory, &mut registers, &given)?;
-    let end = told.outcome;
-    Ok(Left {
-        words: [end.status, end.last, end.codes, end.retired, end.cycles],
-        fault: told.fault,
-        registers,
-        memory,
-    })
+impl Left {
+    fn of(image: &[u8], registers: &[u8], given: &Given) -> Result<Left, Untold> {
+        let (mut memory, mut registers) = (image.to_vec(), registers.to_vec());
+        let told = replaying::replay(false, &mut memory, &mut registers, given)?;
+        Ok(Left {
+            told,
+            registers,
+            memory,
+        })
+    }
 }
 
 /// Replays the image with each byte of the ranges changed. What is left has to
@@ -112,32 +96,29 @@ fn replayed(image: &[u8], registers: &[u8], given: Given) -> Result<Left, Untold
 fn tried(
     image: &[u8],
     registers: &[u8],
-    given: Given,
+    given: &Given,
     ranges: &[Range<usize>],
     shown: &Left,
 ) -> Result<(), Fault> {
     let mut changed = image.to_vec();
-    for range in ranges {
-        changed[range.clone()]
-            .iter_mut()
-            .for_each(|byte| *byte ^= 0xff);
+    for byte in ranges.iter().cloned().flatten() {
+        changed[byte] ^= 0xff;
     }
-    let mut other = replayed(&changed, registers, given).map_err(|_| differs())?;
+    let differs = || Fault::new(Fault::WRONG, DIFFERS);
+    let mut other = Left::of(&changed, registers, given).map_err(|_| differs())?;
     for range in ranges {
         other.memory[range.clone()].copy_from_slice(&shown.memory[range.clone()]);
     }
-    match other == *shown {
+    let same = other.told == shown.told && other.registers == shown.registers;
+    match same && other.memory == shown.memory {
         true => Ok(()),
         false => Err(differs()),
     }
 }
 
-/// What must not happen: the second program, which names the bytes, is wrong.
-fn differs() -> Fault {
-    let message = "the replay with these bytes changed differs: the second program named a byte \
-                   that plays a part";
-    Fault::new(Fault::WRONG, message)
-}
+/// What must not happen.
+const DIFFERS: &str = "the replay with these bytes changed differs: the second program named a \
+                       byte that plays a part";
 
 fn exit_status(run: &Run) -> u8 {
     match run {
@@ -151,7 +132,7 @@ fn exit_status(run: &Run) -> u8 {
 fn heading(run: &Run) -> String {
     match run {
         Run::Met(all) => format!(
-            "run      instruction {all} stops it; no store writes into the next three\n\
+            "run      instruction {all} stops it, within demand 3's premise\n\
              claim    the bytes below may hold anything: both engines give the same\n"
         ),
         Run::Touched(first, all) => format!(

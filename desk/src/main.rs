@@ -44,7 +44,7 @@ options for a listing:
   --listing          of replay, list, peaks and junk: IMAGE is a listing (with
                      --size, if wanted)
 
-options of replay; the first two and --registers are junk's too:
+options of replay, and of junk, but for --budget and --second:
   --start A          the address to start from, inside the image (0)
   --codes C          the condition codes, 4ZF + 2SF + OF, 0 to 7 (4: ZF alone)
   --budget B         the most cycles to run, 1 to 262,145 (4000)
@@ -85,12 +85,12 @@ compared, 4 no good sample.
 
 junk names the bytes that the plain run neither fetches as instruction bytes nor
 reads as data, by the second program. Where that run stops within 65,536
-instructions, and no store writes into the next three, they may hold anything:
-each engine gives the same registers, codes, status, addresses and cycles, and
-the final memories differ there at most. That much is proved of the definitions;
-and the engine's replay is tried with each of them changed. Exit status: 0 so; 1
-a store writes into the next three, and it holds of the plain engine alone; 2
-the run does not stop.
+instructions, and no store writes into the next three (with a window they may),
+these bytes may hold anything: each engine gives the same registers, codes,
+status, addresses and cycles, and the final memories differ there at most. That
+is proved of such bytes; and the engine's replay is tried with each of them
+changed. Exit status: 0 so; 1 a store writes into the next three, and it holds of
+the plain engine alone; 2 the run does not stop.
 
 exit status of replay:
   0  HLT: the image halted

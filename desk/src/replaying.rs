@@ -31,6 +31,7 @@ impl Given {
 }
 
 /// What a replay tells.
+#[derive(PartialEq, Eq)]
 pub struct Told {
     pub outcome: Outcome,
     /// The reason of a failed fetch and the address of the byte at fault, by

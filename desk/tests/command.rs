@@ -660,7 +660,7 @@ fn a_day_that_cannot_be_judged_is_refused() {
 }
 
 const NAMED: &str = "\
-run      instruction 11 stops it; no store writes into the next three
+run      instruction 11 stops it, within demand 3's premise
 claim    the bytes below may hold anything: both engines give the same
 bytes    182 of 256 play no part (by the second program)
   0x42 (66) to 0x77 (119): 54 bytes
@@ -698,6 +698,10 @@ fn a_run_without_the_claim_is_told() {
         "{output}"
     );
     assert!(output.contains("for the plain engine alone") && !output.contains("tried"));
+    if desk::engine::REPLAY_SET.is_some() {
+        let windowed = said(&["junk", &touched, "--window", "0:19"]);
+        assert_eq!(windowed.0, 0, "{windowed:?}");
+    }
     let endless = file("junk_endless.img", &from_hex("700000000000000000 00"));
     let (status, output, _) = said(&["junk", &endless]);
     assert_eq!(status, 2);

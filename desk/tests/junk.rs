@@ -8,14 +8,16 @@ use desk::engine;
 use desk::generate::{Case, Generator, Kind, Random};
 use desk::second::account::Account;
 use desk::second::machine::{Status, CYCLE_LIMIT};
+use desk::second::memory::Memory;
 use desk::second::part::{no_part, played};
 use desk::second::pipeline::{Pipeline, Settings};
 use desk::second::plain::Plain;
-use desk::second::replay::read_registers;
+use desk::second::replay::{read_registers, Chosen};
+use desk::second::window::Window;
 
 /// Programs of each kind; of large ones a tenth.
 const PROGRAMS: usize = 2_000;
-/// Instructions of a history, and cycles that are looked at one by one.
+/// Instructions of a history.
 const MOST: usize = 200;
 
 /// What the programs of one kind showed.
@@ -35,155 +37,243 @@ struct Seen {
     tight: usize,
 }
 
+/// A case in one memory or two, seen through a window or not.
+#[derive(Clone)]
+struct Framed {
+    case: Case,
+    seam: usize,
+    window: Option<Window>,
+}
+
 #[test]
 fn bytes_without_a_part_may_hold_anything() {
+    try_all("one memory", 0x112, |_, case| Framed {
+        case,
+        seam: 0,
+        window: None,
+    });
+}
+
+/// #110: one engine more that only reads the first bytes.
+#[test]
+fn so_they_may_over_two_memories() {
+    try_all("two memories", 0x110, |generator, case| Framed {
+        seam: generator.seam(&case),
+        case,
+        window: None,
+    });
+}
+
+/// #113: a program that patches itself has no premise to meet.
+#[test]
+fn so_they_may_with_a_window() {
+    try_all("a window", 0x113, |generator, case| Framed {
+        seam: 0,
+        window: Some(generator.window(&case)),
+        case,
+    });
+}
+
+/// Programs of every kind in such a frame.
+fn try_all(name: &str, seed: u64, frame: impl Fn(&mut Generator, Case) -> Framed) {
     for kind in Kind::ALL {
-        if kind == Kind::Refusals {
-            continue;
-        }
         let programs = match kind {
+            Kind::Refusals => continue,
             Kind::Large => PROGRAMS / 10,
             _ => PROGRAMS,
         };
-        let mut generator = Generator::new(112 + kind as u64);
+        let mut generator = Generator::new(seed + kind as u64);
         let mut random = Random::new(kind as u64);
         let mut seen = Seen::default();
         for _ in 0..programs {
-            compare(&generator.case_of(kind), &mut random, &mut seen);
+            let case = generator.case_of(kind);
+            let framed = frame(&mut generator, case);
+            compare(&framed, &mut random, &mut seen);
         }
-        println!("{}: {seen:?}", kind.name());
-        assert!(seen.compared > programs / 20, "{} {seen:?}", kind.name());
-        assert!(seen.stops[2..].iter().all(|stops| *stops > 0));
-        assert!(seen.tight > seen.compared / 4);
-        assert!(seen.astray > 0, "{} {seen:?}", kind.name());
+        println!("{name}, {}: {seen:?}", kind.name());
+        assert!(seen.compared > programs / 20, "{seen:?}");
+        assert!(seen.tight > seen.compared / 8, "{seen:?}");
+        assert!(seen.astray > 0, "{seen:?}");
     }
 }
 
 /// Both engines on an image and on another that differs only at bytes without
 /// a part.
-fn compare(case: &Case, random: &mut Random, seen: &mut Seen) {
-    let account = Account::of(
-        &mut start(case),
-        &mut case.image.clone(),
-        MOST,
-        Settings::default(),
-    );
+fn compare(one: &Framed, random: &mut Random, seen: &mut Seen) {
+    let account = one.account(Settings::default());
     let met = account.stopped && account.premise_reach() == account.performed.len();
-    let mut machine = start(case);
-    let played = played(&mut machine, &mut case.image.clone(), MOST as u64);
+    let mut machine = one.start();
+    let mut image = one.case.image.clone();
+    let memory = Memory::split(&mut image, one.seam);
+    let played = played(&mut machine, memory, MOST as u64);
     let junk: Vec<usize> = no_part(&played).into_iter().flatten().collect();
     if !met || junk.is_empty() {
         return;
     }
-    let mut other = case.clone();
+    let mut two = one.clone();
     for at in &junk {
-        other.image[*at] ^= 1 + random.below(255) as u8;
+        two.case.image[*at] ^= 1 + random.below(255) as u8;
     }
-    compare_plain(case, &other);
-    let mut astray = false;
-    for settings in settings::ALL {
-        let due = account.performed.last().map_or(0, |last| last.due);
-        astray |= compare_clocks(case, &other, settings, 2 * due + 3);
-    }
-    compare_product(case, &other, random);
+    compare_plain(one, &two);
+    let strays = settings::ALL.map(|settings| compare_clocks(one, &two, settings));
+    compare_replays(one, &two, random);
     seen.compared += 1;
     seen.stops[machine.status.number() as usize] += 1;
     seen.bytes += junk.len();
-    seen.astray += usize::from(astray);
-    seen.tight += usize::from(is_tight(case, &played, random));
+    seen.astray += usize::from(strays.contains(&true));
+    seen.tight += usize::from(is_tight(one, &played, random));
 }
 
-fn start(case: &Case) -> Plain {
-    let registers = read_registers(&case.registers);
-    plain(&case.image, registers, codes(case.codes), case.start)
+impl Framed {
+    fn start(&self) -> Plain {
+        let case = &self.case;
+        let registers = read_registers(&case.registers);
+        Plain {
+            window: self.window,
+            ..plain(&case.image, registers, codes(case.codes), case.start)
+        }
+    }
+
+    /// The account of its run, with settings but for the window.
+    fn account(&self, settings: Settings) -> Account {
+        let settings = Settings {
+            window: self.window,
+            ..settings
+        };
+        let mut image = self.case.image.clone();
+        let memory = Memory::split(&mut image, self.seam);
+        Account::of(&mut self.start(), memory, MOST, settings)
+    }
+
+    fn pipeline(&self, settings: Settings) -> Pipeline {
+        let case = &self.case;
+        let registers = read_registers(&case.registers);
+        let size = case.image.len() as u64;
+        let settings = Settings {
+            window: self.window,
+            ..settings
+        };
+        Pipeline::fresh(size, registers, codes(case.codes), case.start, settings).expect("a start")
+    }
+
+    /// The settings of a replay, as numbers.
+    fn chosen(&self) -> Chosen {
+        let (first, end) = self
+            .window
+            .map_or((0, 0), |window| (window.first, window.end));
+        Chosen {
+            windowed: u64::from(self.window.is_some()),
+            first,
+            end,
+            ..Chosen::default()
+        }
+    }
 }
 
 /// Two final memories differ only where the images do.
-fn differ_at_most(images: [&[u8]; 2], memories: [&[u8]; 2]) -> bool {
-    let images = images[0].iter().zip(images[1]);
+fn differ_at_most(images: [&Framed; 2], memories: [&[u8]; 2]) -> bool {
+    let [one, two] = images.map(|framed| &framed.case.image);
     let memories = memories[0].iter().zip(memories[1]);
+    let images = one.iter().zip(two);
     images
         .zip(memories)
         .all(|((a, b), (x, y))| a != b || x == y)
 }
 
-fn compare_plain(case: &Case, other: &Case) {
-    let (mut one, mut two) = (start(case), start(other));
-    let (mut memory, mut changed) = (case.image.clone(), other.image.clone());
+fn compare_plain(one: &Framed, two: &Framed) {
+    let (mut first, mut second) = (one.start(), two.start());
+    let (mut memory, mut changed) = (one.case.image.clone(), two.case.image.clone());
     for _ in 0..MOST {
-        one.step(&mut memory).expect("a step");
-        two.step(&mut changed).expect("a step");
-        assert_eq!(one, two);
-        assert!(differ_at_most(
-            [&case.image, &other.image],
-            [&memory, &changed]
-        ));
+        let lent = [&mut memory, &mut changed].map(|bytes| Memory::split(bytes, one.seam));
+        let [lent_one, lent_two] = lent;
+        first.step(lent_one).expect("a step");
+        second.step(lent_two).expect("a step");
+        assert_eq!(first, second);
+        assert!(differ_at_most([one, two], [&memory, &changed]));
     }
 }
 
-/// The pipeline clock by clock: all but the stages and the predicted address.
-/// Tells whether those differed in some clock.
-fn compare_clocks(case: &Case, other: &Case, settings: Settings, clocks: u64) -> bool {
-    let fresh = |case: &Case| {
-        let registers = read_registers(&case.registers);
-        let size = case.image.len() as u64;
-        Pipeline::fresh(size, registers, codes(case.codes), case.start, settings).expect("a start")
-    };
-    let (mut one, mut two) = (fresh(case), fresh(other));
-    let (mut memory, mut changed) = (case.image.clone(), other.image.clone());
+/// The pipeline clock by clock, to the stop and beyond: all but the stages and
+/// the predicted address. Tells whether those differed in some clock.
+fn compare_clocks(one: &Framed, two: &Framed, settings: Settings) -> bool {
+    let account = one.account(settings);
+    let due = account.performed.last().map_or(0, |last| last.due);
+    let (mut first, mut second) = (one.pipeline(settings), two.pipeline(settings));
+    let (mut memory, mut changed) = (one.case.image.clone(), two.case.image.clone());
     let mut astray = false;
-    for _ in 0..clocks {
-        one.clock(&mut memory).expect("a clock");
-        two.clock(&mut changed).expect("a clock");
-        astray |= one != two;
-        let as_one = Pipeline {
-            predicted: one.predicted,
-            d: one.d,
-            e: one.e,
-            m: one.m,
-            w: one.w,
-            ..two
+    for _ in 0..due + 3 {
+        let lent = [&mut memory, &mut changed].map(|bytes| Memory::split(bytes, one.seam));
+        let [lent_one, lent_two] = lent;
+        first.clock(lent_one).expect("a clock");
+        second.clock(lent_two).expect("a clock");
+        astray |= first != second;
+        let as_first = Pipeline {
+            predicted: first.predicted,
+            d: first.d,
+            e: first.e,
+            m: first.m,
+            w: first.w,
+            ..second
         };
-        assert_eq!(one, as_one);
-        assert!(differ_at_most(
-            [&case.image, &other.image],
-            [&memory, &changed]
-        ));
+        assert_eq!(first, as_first);
+        assert!(differ_at_most([one, two], [&memory, &changed]));
     }
-    assert!(one.status != Status::Aok);
+    assert!(first.status != Status::Aok);
     astray
 }
 
-/// A replay by the product: result words, registers, memory.
-fn replayed(case: &Case, budget: u64) -> (engine::Answer, Vec<u8>, Vec<u8>) {
+/// What a replay answers, the registers and memory: by the product's function
+/// for such a frame, or by the second program where it has none.
+fn replayed(framed: &Framed, budget: u64) -> (Vec<u64>, Vec<u8>, Vec<u8>) {
+    let case = &framed.case;
     let (mut memory, mut registers) = (case.image.clone(), case.registers.clone());
-    let (start, codes) = (case.start, case.codes);
-    let replay = engine::replay;
-    let answer = engine::outcome(replay, &mut memory, &mut registers, start, codes, budget);
-    (answer, registers, memory)
+    let (start, codes, chosen) = (case.start, case.codes, framed.chosen());
+    let mut block = [0; 88];
+    let answer = if framed.seam > 0 {
+        let split = engine::REPLAY_SPLIT.unwrap_or(desk::second::replay_split);
+        let (program, writable) = memory.split_at_mut(framed.seam);
+        let lent = (&mut registers, &mut block);
+        split(
+            program, writable, lent.0, lent.1, start, codes, budget, chosen,
+        )
+    } else if framed.window.is_some() {
+        let set = engine::REPLAY_SET.unwrap_or(desk::second::replay_set);
+        set(
+            &mut memory,
+            &mut registers,
+            &mut block,
+            start,
+            codes,
+            budget,
+            chosen,
+        )
+    } else {
+        let short = &mut block[..40];
+        engine::replay(&mut memory, &mut registers, short, start, codes, budget)
+    };
+    let words: [u64; 11] = engine::words(&block);
+    ([&[answer], &words[..]].concat(), registers, memory)
 }
 
 /// Whatever the cycle budget: the most, and some that are spent in mid-run.
-fn compare_product(case: &Case, other: &Case, random: &mut Random) {
+fn compare_replays(one: &Framed, two: &Framed, random: &mut Random) {
     for budget in [CYCLE_LIMIT, 1 + random.below(40), 1 + random.below(400)] {
-        let (one, two) = (replayed(case, budget), replayed(other, budget));
-        assert_eq!((&one.0, &one.1), (&two.0, &two.1));
-        assert!(differ_at_most(
-            [&case.image, &other.image],
-            [&one.2, &two.2]
-        ));
+        let (first, second) = (replayed(one, budget), replayed(two, budget));
+        assert_eq!((&first.0, &first.1), (&second.0, &second.1));
+        assert_eq!(first.0[0], 0);
+        assert!(differ_at_most([one, two], [&first.2, &second.2]));
     }
 }
 
 /// Whether a byte that does play a part, changed, makes a difference.
-fn is_tight(case: &Case, played: &[bool], random: &mut Random) -> bool {
+fn is_tight(one: &Framed, played: &[bool], random: &mut Random) -> bool {
     let places: Vec<usize> = (0..played.len()).filter(|at| played[*at]).collect();
     if places.is_empty() {
         return false;
     }
-    let mut other = case.clone();
-    other.image[random.pick(&places)] ^= 1 + random.below(255) as u8;
-    let (one, two) = (replayed(case, 4_000), replayed(&other, 4_000));
-    (one.0, one.1) != (two.0, two.1)
-        || !differ_at_most([&case.image, &other.image], [&one.2, &two.2])
+    let mut two = one.clone();
+    two.case.image[random.pick(&places)] ^= 1 + random.below(255) as u8;
+    let (first, second) = (replayed(one, 4_000), replayed(&two, 4_000));
+    let same = (first.0, first.1) == (second.0, second.1);
+    !same || !differ_at_most([one, &two], [&first.2, &second.2])
 }

@@ -96,7 +96,7 @@ pub fn own_bytes(memory: &Memory, window: Option<Window>, address: u64) -> Range
 /// one is missing; two, where the register byte does; else all (#112).
 pub fn looked_at(memory: &Memory, window: Option<Window>, address: u64) -> Range<u64> {
     let own = own_bytes(memory, window, address);
-    let most = match fetch(memory, window, address) {
+    let end = match fetch(memory, window, address) {
         Ok(_) => own.end,
         Err(stop) => match stop.reason {
             Reason::None => own.end,
@@ -105,5 +105,5 @@ pub fn looked_at(memory: &Memory, window: Option<Window>, address: u64) -> Range
             Reason::Register => own.start + 2,
         },
     };
-    own.start..most
+    own.start..end
 }

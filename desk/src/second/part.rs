@@ -11,16 +11,16 @@ use std::ops::Range;
 /// For each byte of memory, whether one of the next instructions, at most so
 /// many, fetches or reads it. Memory and record are left as the last of them
 /// left them.
-pub fn played(machine: &mut Plain, bytes: &mut [u8], most: u64) -> Vec<bool> {
-    let mut played = vec![false; bytes.len()];
-    let mut memory = Memory::from(bytes);
+pub fn played<'a>(machine: &mut Plain, memory: impl Into<Memory<'a>>, most: u64) -> Vec<bool> {
+    let mut memory = memory.into();
+    let mut played = vec![false; memory.extent().size as usize];
     for _ in 0..most {
         if machine.status != Status::Aok {
             break;
         }
-        let window = machine.window;
-        mark(&mut played, looked_at(&memory, window, machine.address));
-        if let Ok(parts) = fetch(&memory, window, machine.address) {
+        let (window, address) = (machine.window, machine.address);
+        mark(&mut played, looked_at(&memory, window, address));
+        if let Ok(parts) = fetch(&memory, window, address) {
             mark(&mut played, read(machine, &memory, &parts));
         }
         machine.perform(&mut memory);
@@ -45,7 +45,7 @@ fn mark(played: &mut [bool], bytes: Range<u64>) {
 }
 
 /// The bytes that an instruction reads as data, by the record as it stands
-/// before it; a load outside memory reads none.
+/// before it; a load outside memory, or across the seam, reads none.
 fn read(before: &Plain, memory: &Memory, parts: &Parts) -> Range<u64> {
     let at = match parts.code {
         MRMOVQ => before.registers.get(parts.rb).wrapping_add(parts.constant),
