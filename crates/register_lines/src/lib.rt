@@ -10,7 +10,7 @@ ghost use Rattle.register_lines.specs.Registers.{registerName, registerL
 const NAMES: [u8; 45] = *b"raxrcxrdxrbxrsprbprsirdir8 r9 r10r11r12r13r14";
 
 // A register's name and value.
-fn put_named(buffer: &mut [u8], at: usize, k: usize, v: u64) -> usize
+pub fn put_named(buffer: &mut [u8], at: usize, k: usize, v: u64) -> usize
     requires { ⌜ (k < 15) × (at + 25 < 2 ^ 64) ⌝ }
     ensures { λ r. ⌜ Put (numberLine (registerName k) v) at (now (buffer .entry)) r (now (buffer .exit)) ⌝ }
     ensures { λ r. ⌜ r ≤ at + 25 ⌝ }

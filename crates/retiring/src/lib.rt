@@ -52,7 +52,7 @@ fn reason_behind(settings: Settings, k: Retired, j: Instruction) -> Reason
 }
 
 // With none kept the charge is 0.
-fn reason_from(settings: Settings, kept: Kept, j: Instruction) -> Reason
+pub fn reason_from(settings: Settings, kept: Kept, j: Instruction) -> Reason
     ensures { λ r. ⌜ r ≡ reasonFrom (coreOf settings) kept j ⌝ }
 {
     match kept {

@@ -36,6 +36,7 @@ pub const CLASSES: &Classes = &[
 
 /// Every class of single calls that has to occur.
 pub const CALL_CLASSES: &Classes = &[
+    ("call, store in M into the window", &[PROGRAM]),
     ("lent", &[PARTS[0], PARTS[1], PARTS[2]]),
     ("access in M", &ACCESSES),
     (
@@ -43,6 +44,9 @@ pub const CALL_CLASSES: &Classes = &[
         &["by the plain engine", "by the pipeline"],
     ),
 ];
+
+/// Where a store lies that meets the window and is refused by the seam.
+pub const PROGRAM: &str = "in the program part";
 
 /// How memory is lent.
 pub fn parts_name(memory: Extent) -> &'static str {

@@ -1,5 +1,6 @@
 //! What turned up around code windows and the stores into them (#113).
 
+use super::seams;
 use super::tally::{Classes, Tally};
 use desk::second::account::{Account, Kind, Performed};
 use desk::second::letter;
@@ -61,7 +62,7 @@ pub const CALL_CLASSES: &Classes = &[
     ("call, in the clock of a patch", &SAME_CLOCK),
     (
         "call, store in M into the window",
-        &["AOK", "bad status", "outside", "an empty window"],
+        &["AOK", "bad status", "an empty window"],
     ),
     ("kept store says patched", &["with a window", "without"]),
 ];
@@ -249,7 +250,7 @@ fn count_call_store(
     } else if window.first == window.end && (m.result..m.result + 8).contains(&window.first) {
         tally.count(heading, "an empty window");
     } else if meets && m.result < memory.seam {
-        tally.count(heading, "outside");
+        tally.count("call, store in M into the window", seams::PROGRAM);
     } else if meets {
         tally.count(heading, "bad status");
     }

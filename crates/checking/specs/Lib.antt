@@ -1,0 +1,4 @@
+pub mod Stores
+pub mod State
+pub mod Follows
+pub mod Loop

@@ -1,0 +1,7 @@
+-- To be read: Line, Text, Verdict. What they say together: Honest, Exact, Accepts.
+pub mod Line
+pub mod Text
+pub mod Honest
+pub mod Verdict
+pub mod Exact
+pub mod Accepts

@@ -1,0 +1,3 @@
+pub mod Settings
+pub mod Checks
+pub mod Allowed
