@@ -75,7 +75,7 @@ abbrev pub host-edge : Operation
 host-edge =
     promising (List ℕ × List ℕ × List ℕ × ℕ × ℕ × ℕ) Edge (λ x. replayed (x .0) (x .1) (x .2) (x .3) (x .4) (x .5))
 
--- edge::y86_replay_set: the same with the settings by their numbers
+-- edge::replay_set: the same with the settings by their numbers
 abbrev pub replay-set : Operation
 replay-set =
     promising (Numbers × List ℕ × List ℕ × List ℕ × ℕ × ℕ × ℕ) Edge (λ x. replayedSet (x .0) (x .1) (x .2) (x .3) (x .4) (x .5) (x .6))

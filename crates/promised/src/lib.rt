@@ -124,7 +124,7 @@ fn replay_set(
     ensures { λ r. ⌜ Fits replay-set (numbers rule late windowed first end, now (memory .entry), now (registers .entry), now (result .entry), start, codes, budget)
         (edge r (now (memory .exit)) (now (registers .exit)) (now (result .exit))) ⌝ }
 {
-    edge::y86_replay_set(
+    edge::replay_set(
         memory,
         registers,
         result,

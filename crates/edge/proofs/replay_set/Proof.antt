@@ -6,8 +6,8 @@ use Rattle.edge.proofs.Ways.{refuses, replays, as-chosen, refused-as-ch
 use mathlib.Core.Path.{sym, _∙_}
 use native.Mathlib.Omega.{arith}
 use borrow.Author.Needs.{needs}
-use Rattle.edge.proofs.y86_replay_set.Statement.{statement}
-use Rattle.edge.proofs.y86_replay_set.Tie as tie
+use Rattle.edge.proofs.replay_set.Statement.{statement}
+use Rattle.edge.proofs.replay_set.Tie as tie
 
 numbers-refused-requires : tie.Need-numbers-refused-requires
 numbers-refused-requires c κs = search needs
@@ -61,8 +61,8 @@ returns-2 c =
     as-chosen _ _ _ _ _ _ _ _ (ranged .numbers-refused .ensures) _ _ (settings .settings-of .ensures)
     (replays _ fullWords _ _ _ _ _ _ _ _ _ (tested .refusal .ensures) _ _ _ _ (allows .if1 .left) (run .replay .ensures) (answered .write-full .ensures))
 
-pub y86-replay-set-spec : {M : Type 1} → statement M
-y86-replay-set-spec =
+pub replay-set-spec : {M : Type 1} → statement M
+replay-set-spec =
     tie.close
     (tie.spec
     numbers-refused-requires
