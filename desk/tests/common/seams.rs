@@ -36,7 +36,7 @@ pub const CLASSES: &Classes = &[
 
 /// Every class of single calls that has to occur.
 pub const CALL_CLASSES: &Classes = &[
-    ("call, store in M into the window", &[PROGRAM]),
+    (PATCHED_PROGRAM, &[PROGRAM]),
     ("lent", &[PARTS[0], PARTS[1], PARTS[2]]),
     ("access in M", &ACCESSES),
     (
@@ -46,6 +46,7 @@ pub const CALL_CLASSES: &Classes = &[
 ];
 
 /// Where a store lies that meets the window and is refused by the seam.
+pub const PATCHED_PROGRAM: &str = "call, store in M into the window, which fails";
 pub const PROGRAM: &str = "in the program part";
 
 /// How memory is lent.

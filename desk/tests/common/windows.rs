@@ -250,7 +250,7 @@ fn count_call_store(
     } else if window.first == window.end && (m.result..m.result + 8).contains(&window.first) {
         tally.count(heading, "an empty window");
     } else if meets && m.result < memory.seam {
-        tally.count("call, store in M into the window", seams::PROGRAM);
+        tally.count(seams::PATCHED_PROGRAM, seams::PROGRAM);
     } else if meets {
         tally.count(heading, "bad status");
     }
