@@ -184,8 +184,8 @@ fn run_plain_through(image: &[u8], given: Registers, settings: Settings) -> (Pla
 }
 
 /// #113: the example that rewrites its own constant. With a window it is the
-/// plain engine's sum; without one, two turns of three see the constant as it
-/// was.
+/// plain engine's sum; without one, one turn of the three sees the constant as
+/// it was.
 #[test]
 fn the_example_patches_itself() {
     let text = include_str!("../../examples/patching.lst");
