@@ -1,4 +1,7 @@
 // Budgets, logs, answers: what the entries of both engines and of the host edge share.
+
+#![tactic(auto)]
+
 ghost use Rattle.std.specs.Prelude.{◌≡◌, cond, ◌≤◌, set};
 ghost use Rattle.machine.specs.Types.{codes_number};
 ghost use Rattle.machine.specs.Runs.{size_refused, budget_refused, start_refused, window_refused, start_refusal};

@@ -1,4 +1,7 @@
 // What the exported functions share: words in lent blocks, and codes and status by their numbers.
+
+#![tactic(auto)]
+
 ghost use Rattle.std.specs.Prelude.{◌≡◌, ◌*◌, ◌≤◌, length};
 ghost use Rattle.machine.specs.Types.{fault_number, status_number};
 ghost use Rattle.block.specs.Block.{words_in, with_words, codes_from};

@@ -18,5 +18,8 @@
 // A status is its number in document 01, any other word AOK; a fault is its number in document 02, any other word none. Of a word for a byte the lowest byte counts, of a word for
 // a truth value the lowest bit. Where a record has a bubble, or keeps none, only the mark is written: the words after
 // it stay as they were. Where there is no window its first address and end stay so too.
+
+#![tactic(auto)]
+
 pub mod layout;
 pub mod reading;

@@ -1,4 +1,7 @@
 // The checker of a trace: line by line, beside the plain engine's steps, with their charges and the last three stores.
+
+#![tactic(auto)]
+
 mod looking;
 mod stores;
 

@@ -1,4 +1,7 @@
 // The pipelined engine's limit and its types. What they mean, document 01's five-stage rules, is in specs/.
+
+#![tactic(auto)]
+
 use machine::{Accessed, Blame, Codes, Decoded, Executed, Instruction, REGISTERS, Status, Window};
 
 // The most cycles that are not refused.

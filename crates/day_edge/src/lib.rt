@@ -1,4 +1,7 @@
 // A day's samples against the filed peak (#114), exported.
+
+#![tactic(auto)]
+
 ghost use Rattle.std.specs.Prelude.{◌≡◌, T, length};
 ghost use Rattle.peaks.specs.Types.{comparison_number};
 ghost use Rattle.peaks.specs.Division.{mean_is_number};

@@ -1,4 +1,7 @@
 // The program `y86peaks` (#114) from the bytes read to the bytes written: its first line, the replay of the image behind it, and the lines of the day.
+
+#![tactic(auto)]
+
 mod line;
 mod lines;
 

@@ -1,4 +1,7 @@
 // The host edge: exported functions on byte slices and numbers.
+
+#![tactic(auto)]
+
 mod replaying;
 
 ghost use Rattle.std.specs.Prelude.{◌≡◌};

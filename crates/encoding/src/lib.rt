@@ -1,4 +1,7 @@
 // Encoding instructions: each has one form, with F in place of a filler (#104).
+
+#![tactic(auto)]
+
 ghost use Rattle.std.specs.Prelude.{◌≡◌, false, ◌+◌, ◌^◌, ◌≤◌, ◌<◌, length};
 ghost use Rattle.machine.specs.Fetch.{names_a, names_b, half as half_of};
 ghost use Rattle.machine.specs.Table.{row_of};

@@ -1,4 +1,7 @@
 // Fetch: document 01's checks in their order.
+
+#![tactic(auto)]
+
 ghost use Rattle.std.specs.Prelude.{◌≡◌, cond, ◌+◌, ◌-◌, ◌≤◌, ◌<◌, min, eqb, ltb, length, get_or};
 ghost use Rattle.machine.specs.Memory.{lent, through, seen_to};
 ghost use Rattle.machine.specs.Words.{number};

@@ -1,4 +1,7 @@
 // One clock of the stages: what stands in F to W, and the codes, with registers and memory beside them.
+
+#![tactic(auto)]
+
 ghost use Rattle.std.specs.Prelude.{◌≡◌, length};
 ghost use Rattle.machine.specs.Memory.{lent, through};
 ghost use Rattle.machine.specs.Fetch.{fetch as fetch_of};

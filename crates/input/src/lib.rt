@@ -1,4 +1,7 @@
 // Standard input, read until it ends, so that a read that fails is not taken for the end.
+
+#![tactic(auto)]
+
 ghost use Rattle.std.specs.Prelude.{◌≤◌, length};
 
 use libc::{EINTR, STDIN_FILENO};

@@ -1,4 +1,7 @@
 // Listings: images received as text, read into lent memory. What a listing is and means is in specs/.
+
+#![tactic(auto)]
+
 mod judging;
 mod laying;
 

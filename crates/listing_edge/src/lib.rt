@@ -1,4 +1,7 @@
 // Listings read at the edge: what the reader answers, as a number and a block of two words.
+
+#![tactic(auto)]
+
 ghost use Rattle.std.specs.Prelude.{◌≡◌, length};
 ghost use Rattle.listing.specs.Reading.{kind_number};
 ghost use Rattle.listing_edge.specs.Listings.{listing_refusal, told, listing_edge, listing_read};

@@ -1,4 +1,7 @@
 // The table's entries by code.
+
+#![tactic(auto)]
+
 mod columns;
 pub mod numbers;
 

@@ -1,5 +1,7 @@
 // The numbers of document 01 that the code names, and the types of instructions and of the plain engine. What they mean, document 01's rules, is in specs/.
 
+#![tactic(auto)]
+
 // The codes that a rule names by themselves.
 pub const HALT: u8 = 0;
 

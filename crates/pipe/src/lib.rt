@@ -1,4 +1,7 @@
 // The pipelined engine: a fresh start, one clock, and a run with a cycle budget and two lent logs.
+
+#![tactic(auto)]
+
 mod refusing;
 mod running;
 

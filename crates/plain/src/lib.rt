@@ -1,4 +1,7 @@
 // The plain engine: one instruction at a time.
+
+#![tactic(auto)]
+
 ghost use Rattle.std.specs.Prelude.{◌≡◌, false, [], ◌∷◌, ℕ, ◌+◌, ◌≤◌, ◌<◌};
 ghost use Rattle.machine.specs.declared.Machine.{Machine as MachineOf};
 ghost use Rattle.machine.specs.declared.Window.TheVariants.{NoWindow as no_window};

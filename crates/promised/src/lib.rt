@@ -1,5 +1,8 @@
 // The code meets the promises that the crate cases speaks of: each open operation, called, fits its own. A contract of theirs that said less
 // would fail here.
+
+#![tactic(auto)]
+
 ghost use Rattle.std.specs.Prelude.{[]};
 ghost use Rattle.machine.specs.Memory.{lent};
 ghost use Rattle.machine.specs.Runs.{plain_answer};

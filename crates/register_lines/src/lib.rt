@@ -1,4 +1,7 @@
 // The registers' lines of a report.
+
+#![tactic(auto)]
+
 ghost use Rattle.std.specs.Prelude.{◌+◌, ◌^◌, ◌≤◌, ◌<◌};
 ghost use Rattle.text.specs.Put.{Put};
 ghost use Rattle.report_lines.specs.Lines.{number_line};

@@ -1,4 +1,7 @@
 // Both ends of a replay: what it is refused for, and what it leaves in the lent blocks.
+
+#![tactic(auto)]
+
 pub mod settings;
 
 ghost use Rattle.std.specs.Prelude.{◌≡◌, length};

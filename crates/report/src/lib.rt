@@ -1,4 +1,7 @@
 // The report of a run: document 01's lines, made from the answer of the run.
+
+#![tactic(auto)]
+
 ghost use Rattle.std.specs.Prelude.{◌≡◌, List, [], ℕ, ◌+◌, ◌^◌, ◌≤◌, ◌<◌};
 ghost use Rattle.text.specs.Put.{Put, written};
 ghost use Rattle.machine.specs.Memory.{lent};

@@ -1,4 +1,7 @@
 // Retirement: the counts, the last address, the charges by kind, and the instruction kept for its follower's charge.
+
+#![tactic(auto)]
+
 ghost use Rattle.std.specs.Prelude.{◌≡◌, ◌<◌};
 ghost use Rattle.clocked.specs.Prediction.{core_of};
 ghost use Rattle.clocked.specs.Charges.{reason_behind, reason_from, counted as counted_of};

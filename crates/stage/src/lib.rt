@@ -1,4 +1,7 @@
 // The pipelined engine's stages in one clock: their work, sources, signals and controls.
+
+#![tactic(auto)]
+
 pub mod addresses;
 pub mod controls;
 pub mod forwarding;

@@ -1,4 +1,7 @@
 // Texts in lent buffers: what every writer and reader of a text shares.
+
+#![tactic(auto)]
+
 mod decimal;
 pub mod hex;
 pub mod parts;

@@ -1,4 +1,7 @@
 // Both engines from one start, for a caller who wants to compare them.
+
+#![tactic(auto)]
+
 ghost use Rattle.std.specs.Prelude.{◌≡◌};
 ghost use Rattle.machine.specs.Memory.{lent};
 ghost use Rattle.machine.specs.Runs.{plain_answer};

@@ -1,5 +1,7 @@
 // A station's trace: its lines, and what a checker of one answers: definitions and theorems in specs/.
 
+#![tactic(auto)]
+
 // The number of the first wrong line, from 1, with its kind, or 0 and 0; and how many lines were found right.
 #[derive(Drop)]
 pub struct Verdict {

@@ -1,4 +1,7 @@
 // A trace checked at the edge: the settings' numbers, the refusals, and the verdict's words.
+
+#![tactic(auto)]
+
 ghost use Rattle.std.specs.Prelude.{◌≡◌, false, ◌≤◌, length};
 ghost use Rattle.trace_edge.specs.Settings.{window_from, settings_from, numbers_refused as numbers_refused_of};
 ghost use Rattle.trace_edge.specs.Checks.{check, check_refusal, checked};

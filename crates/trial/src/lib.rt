@@ -4,6 +4,9 @@
 //
 // Its functions have no contract. They are proved to stay inside what they are lent and to return; what they answer is
 // compared with the second program, word for word, and a word read from or written to a wrong place shows there.
+
+#![tactic(auto)]
+
 use blocks_in::layout::{MACHINE_WINDOW, STATE};
 use blocks_in::reading::{codes_in, machine_in, pipeline_in, registers_in, settings_in, window_in};
 use blocks_out::writing::{put_fault_address, put_instruction, put_machine, put_pipeline};

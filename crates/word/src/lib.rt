@@ -1,4 +1,7 @@
 // Words of 64 bits: in memory "8 bytes, least first", their wrapped sums and differences, and the signed overflow of these.
+
+#![tactic(auto)]
+
 ghost use Rattle.std.specs.Prelude.{◌≡◌, ◌+◌, ◌<◌, ◌≤◌, length, pos, ◌+ℤ◌, ◌-ℤ◌, int_lt};
 ghost use Rattle.std.specs.Int.{w64};
 ghost use Rattle.machine.specs.Memory.{lent, inside as inside_of, load as load_of, store as store_of};

@@ -1,4 +1,7 @@
 // Writing listings: one instruction a line, with its notation as the remark (#104).
+
+#![tactic(auto)]
+
 mod hexes;
 mod lines;
 mod reaching;

@@ -1,4 +1,7 @@
 // Instructions and listings written at the edge: a number, the bytes, and their length as a word.
+
+#![tactic(auto)]
+
 ghost use Rattle.std.specs.Prelude.{◌≡◌, ◌≤◌, length};
 ghost use Rattle.machine.specs.Memory.{lent};
 ghost use Rattle.encoding.specs.Encode.{fields};

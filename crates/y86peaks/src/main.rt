@@ -1,4 +1,7 @@
 // The program for filed peaks (#114): reads a line and a raw image from standard input, and hands over the day, which `dayreport` makes.
+
+#![tactic(auto)]
+
 use libc::{STDERR_FILENO, STDOUT_FILENO};
 
 // The longest first line, 63 bytes, and one byte more than the longest image are read, so that a longer one is seen to be too long.

@@ -1,4 +1,7 @@
 // The program: reads a raw image from standard input, and hands over its report, which `report` makes.
+
+#![tactic(auto)]
+
 use libc::{STDERR_FILENO, STDOUT_FILENO};
 
 // One byte more than the longest image is read, so that a longer one is seen to be too long.
