@@ -28,7 +28,7 @@ use trace_lines::target_of;
 
 // How far a check has come: the plain engine's record, the charges so far, what the next charge is told by, the last stores, the place in the trace, and the
 // kind of fault of the line looked at, 0 for none.
-#[derive(Drop)]
+#[derive(Clone, Copy)]
 pub struct Checking {
     pub machine: Machine,
     pub charged: u64,
@@ -39,7 +39,7 @@ pub struct Checking {
 }
 
 // The next instruction, its charges with those before, and the place behind its line, or the same place where the trace has another.
-#[derive(Drop)]
+#[derive(Clone, Copy)]
 struct Due {
     x: Executed,
     w: Accessed,

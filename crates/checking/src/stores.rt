@@ -8,14 +8,14 @@ use lookup::{accesses_of, size_of};
 use machine::{Executed, Window};
 
 // Whether an instruction stored, and the address of the word.
-#[derive(Drop)]
+#[derive(Clone, Copy)]
 pub struct Store {
     pub writes: bool,
     pub at: u64,
 }
 
 // Those of the three instructions before, the last one first.
-#[derive(Drop)]
+#[derive(Clone, Copy)]
 pub struct Stores {
     pub first: Store,
     pub second: Store,

@@ -12,7 +12,7 @@ pub const LAST_RULE: u8 = 2;
 
 // In what one core may differ from another: the number of the rule by which it predicts conditional jumps, and whether a store's data may come late;
 // with them the code window.
-#[derive(Drop)]
+#[derive(Clone, Copy)]
 pub struct Settings {
     pub rule: u8,
     pub late: bool,
@@ -20,7 +20,7 @@ pub struct Settings {
 }
 
 // What is kept of the last instruction retired with AOK, for its follower's charge.
-#[derive(Drop)]
+#[derive(Clone, Copy)]
 pub struct Retired {
     pub instruction: Instruction,
     pub holds: bool,
@@ -28,38 +28,38 @@ pub struct Retired {
 }
 
 // Each stage holds an instruction, or a bubble.
-#[derive(Drop)]
+#[derive(Clone, Copy)]
 pub enum StageD {
     BubbleD,
     InD(Instruction),
 }
 
-#[derive(Drop)]
+#[derive(Clone, Copy)]
 pub enum StageE {
     BubbleE,
     InE(Decoded),
 }
 
-#[derive(Drop)]
+#[derive(Clone, Copy)]
 pub enum StageM {
     BubbleM,
     InM(Executed),
 }
 
-#[derive(Drop)]
+#[derive(Clone, Copy)]
 pub enum StageW {
     BubbleW,
     InW(Accessed),
 }
 
-#[derive(Drop)]
+#[derive(Clone, Copy)]
 pub enum Kept {
     NoneKept,
     LastKept(Retired),
 }
 
 // Why an instruction is charged, or that it is not.
-#[derive(Drop)]
+#[derive(Clone, Copy)]
 pub enum Reason {
     Free,
     Waited,
@@ -69,7 +69,7 @@ pub enum Reason {
 }
 
 // The cycles charged so far, by kind.
-#[derive(Drop)]
+#[derive(Clone, Copy)]
 pub struct Kinds {
     pub loaduse: u64,
     pub mispredict: u64,
@@ -78,7 +78,7 @@ pub struct Kinds {
 }
 
 // The pipelined engine's record: its settings, which stay; F is the predicted address alone; what a bad fetch that stopped it is blamed on comes last.
-#[derive(Drop)]
+#[derive(Clone, Copy)]
 pub struct Pipeline {
     pub settings: Settings,
     pub predicted: u64,

@@ -5,7 +5,7 @@ ghost use Rattle.dayreport.specs.Line.{first_line};
 use text::{Field, read_field};
 
 // What is asked for, and the place behind the line, where the image begins.
-#[derive(Drop)]
+#[derive(Clone, Copy)]
 pub struct Request {
     pub table: u64,
     pub length: u64,
@@ -13,7 +13,7 @@ pub struct Request {
     pub image: usize,
 }
 
-#[derive(Drop)]
+#[derive(Clone, Copy)]
 pub enum FirstLine {
     BadLine,
     Asks(Request),

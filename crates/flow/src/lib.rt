@@ -21,7 +21,7 @@ use stage::signals::{bad_in_w, meets_either, patched_in_w, ret_on_the_way, wrong
 use stage::working::{after_e, after_m, registers_after};
 
 // F to W with the codes: what a clock works on, without registers and counts.
-#[derive(Drop)]
+#[derive(Clone, Copy)]
 pub struct Flow {
     pub predicted: u64,
     pub d: StageD,
@@ -33,7 +33,7 @@ pub struct Flow {
 }
 
 // What is worked out in E and carried on from there: the targets of what stands in M and in W, and whether M holds a wrongly guessed jump.
-#[derive(Drop)]
+#[derive(Clone, Copy)]
 pub struct Ahead {
     pub m: Targets,
     pub w: Targets,
@@ -41,7 +41,7 @@ pub struct Ahead {
 }
 
 // What the controls go by.
-#[derive(Drop)]
+#[derive(Clone, Copy)]
 pub struct Signals {
     pub waits: bool,
     pub mispredicts: bool,

@@ -7,7 +7,7 @@ ghost use Rattle.std.specs.Prelude.{◌≤◌, length};
 use libc::{EINTR, STDIN_FILENO};
 
 // How many bytes were read before the input ended or the buffer was full, and whether a read failed.
-#[derive(Drop)]
+#[derive(Clone, Copy)]
 pub struct Taken {
     pub failed: bool,
     pub length: usize,

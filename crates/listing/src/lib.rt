@@ -9,7 +9,7 @@ ghost use Rattle.std.specs.Prelude.{◌≡◌};
 ghost use Rattle.listing.specs.Reading.{answered, listed};
 
 // The kinds of a faulty line, in document 02's order.
-#[derive(Drop)]
+#[derive(Clone, Copy)]
 pub enum Kind {
     Form,
     Count,
@@ -18,21 +18,21 @@ pub enum Kind {
 }
 
 // A line that is right, with the first address behind its bytes; or its kind.
-#[derive(Drop)]
+#[derive(Clone, Copy)]
 pub enum Checked {
     Right(u64),
     Wrong(Kind),
 }
 
 // A text that is a listing; or its first faulty line, by its number from 1 and its kind.
-#[derive(Drop)]
+#[derive(Clone, Copy)]
 pub enum Reading {
     Good,
     Faulty(u64, Kind),
 }
 
 // What the reader answers: a refusal by its number, or the reading.
-#[derive(Drop)]
+#[derive(Clone, Copy)]
 pub enum Answer {
     Refused(u64),
     Read(Reading),

@@ -32,7 +32,7 @@ pub const MEMORY_LIMIT: usize = 65536;
 pub const PLAIN_LIMIT: u64 = 65536;
 
 // AOK, or why a machine stopped.
-#[derive(Drop)]
+#[derive(Clone, Copy)]
 pub enum Status {
     Aok,
     Hlt,
@@ -41,7 +41,7 @@ pub enum Status {
 }
 
 // Why a fetch failed, if it did: document 02's reasons (#107).
-#[derive(Drop)]
+#[derive(Clone, Copy)]
 pub enum Fault {
     NoFault,
     FirstMissing,
@@ -52,14 +52,14 @@ pub enum Fault {
 }
 
 // The reason of a failed fetch, and the address of the byte at fault: none, and 0, where no fetch failed.
-#[derive(Drop)]
+#[derive(Clone, Copy)]
 pub struct Blame {
     pub fault: Fault,
     pub address: u64,
 }
 
 // The condition codes ZF, SF and OF.
-#[derive(Drop)]
+#[derive(Clone, Copy)]
 pub struct Codes {
     pub zf: bool,
     pub sf: bool,
@@ -67,14 +67,14 @@ pub struct Codes {
 }
 
 // The code window: none, or from a first address up to an end, which is not in it.
-#[derive(Drop)]
+#[derive(Clone, Copy)]
 pub enum Window {
     NoWindow,
     Within(u64, u64),
 }
 
 // The plain engine's machine record; what a bad fetch that stopped it is blamed on and the code window come last.
-#[derive(Drop)]
+#[derive(Clone, Copy)]
 pub struct Machine {
     pub registers: [u64; REGISTERS],
     pub codes: Codes,
@@ -87,7 +87,7 @@ pub struct Machine {
 }
 
 // An instruction as it was fetched: where it stands, its status at fetch, its fields, the address that follows it, and why its fetch failed.
-#[derive(Drop)]
+#[derive(Clone, Copy)]
 pub struct Instruction {
     pub address: u64,
     pub status: Status,
@@ -101,7 +101,7 @@ pub struct Instruction {
 }
 
 // What fetching answers: document 01's number, 0 or that of a refusal, the instruction, and what a bad fetch is blamed on.
-#[derive(Drop)]
+#[derive(Clone, Copy)]
 pub struct FetchAnswer {
     pub number: u64,
     pub instruction: Instruction,
@@ -109,7 +109,7 @@ pub struct FetchAnswer {
 }
 
 // What stands in E: an instruction with the values of its two sources.
-#[derive(Drop)]
+#[derive(Clone, Copy)]
 pub struct Decoded {
     pub instruction: Instruction,
     pub a: u64,
@@ -117,7 +117,7 @@ pub struct Decoded {
 }
 
 // What stands in M: the first source's value is kept, for it may be the word to store or the address to load from.
-#[derive(Drop)]
+#[derive(Clone, Copy)]
 pub struct Executed {
     pub instruction: Instruction,
     pub a: u64,
@@ -126,7 +126,7 @@ pub struct Executed {
 }
 
 // What stands in W: the word loaded, the status after the access, and whether it wrote into the window.
-#[derive(Drop)]
+#[derive(Clone, Copy)]
 pub struct Accessed {
     pub instruction: Instruction,
     pub result: u64,

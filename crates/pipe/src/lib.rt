@@ -18,7 +18,7 @@ use clocked::{Kept, Kinds, Pipeline, Settings, StageD, StageE, StageM, StageW};
 use machine::{Blame, Codes, Fault, REGISTERS, Status, Window};
 
 // Document 01's number, 0 or that of a refusal, and the record.
-#[derive(Drop)]
+#[derive(Clone, Copy)]
 pub struct Answer {
     pub number: u64,
     pub pipeline: Pipeline,

@@ -22,7 +22,7 @@ use machine::{
 };
 
 // What an entry answers: document 01's number, and the record.
-#[derive(Drop)]
+#[derive(Clone, Copy)]
 pub struct Answer {
     pub number: u64,
     pub machine: Machine,

@@ -15,7 +15,7 @@ use stage::forwarding::awaited_a;
 use stage::signals::{meets_either, mispredicted};
 
 // What a clock counts, and what it is counted by.
-#[derive(Drop)]
+#[derive(Clone, Copy)]
 pub struct Tally {
     pub last: u64,
     pub retired: u64,

@@ -9,14 +9,14 @@ use isa::decoding::{loaded_target, result_target, source_a, source_b};
 use machine::{Decoded, Instruction, NONE, REGISTERS};
 
 // The registers that an instruction writes, 15 for none: worked out in E, and carried on from there.
-#[derive(Drop)]
+#[derive(Clone, Copy)]
 pub struct Targets {
     pub result: u8,
     pub loaded: u8,
 }
 
 // The registers that D's instruction reads, 15 for none.
-#[derive(Drop)]
+#[derive(Clone, Copy)]
 pub struct Sources {
     pub a: u8,
     pub b: u8,

@@ -4,7 +4,7 @@ ghost use Rattle.text.specs.Decimal.{is_digit};
 ghost use Rattle.text.specs.Field.{starts_number, read_on, field_at, field_ended};
 
 // A number and the place behind it, or none.
-#[derive(Drop)]
+#[derive(Clone, Copy)]
 pub enum Field {
     Number(u64, usize),
     NoNumber,

@@ -12,7 +12,7 @@ use clocked::Settings;
 use machine::{Codes, REGISTERS, Window};
 
 // What each engine answers.
-#[derive(Drop)]
+#[derive(Clone, Copy)]
 pub struct Both {
     pub plain: plain::Answer,
     pub pipe: pipe::Answer,

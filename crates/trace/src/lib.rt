@@ -3,7 +3,7 @@
 #![tactic(auto)]
 
 // The number of the first wrong line, from 1, with its kind, or 0 and 0; and how many lines were found right.
-#[derive(Drop)]
+#[derive(Clone, Copy)]
 pub struct Verdict {
     pub line: u64,
     pub kind: u64,
