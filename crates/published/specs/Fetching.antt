@@ -67,6 +67,7 @@ half_same false x x' e = refl
 -- a half that names a register is one of a byte that is there
 there_a : (a b : Bool) → T a → T (a || b)
 there_a true b t = tt
+there_a false b t = elim t [ ]
 
 there_b : (a b : Bool) → T b → T (a || b)
 there_b true b t = tt

@@ -1,5 +1,5 @@
 -- "The core ignores the unused half of the register byte" (02, #102): the fetched instruction does not depend on it.
-use Rattle.std.specs.Prelude.{ℕ, zero, suc, ◌+◌, ◌-◌, ◌/◌, ◌%◌, ◌≤◌, ◌≡◌, refl, Bool, true, cond, T, ltb}
+use Rattle.std.specs.Prelude.{ℕ, zero, suc, ◌+◌, ◌-◌, ◌/◌, ◌%◌, ◌≤◌, ◌≡◌, refl, Bool, true, false, cond, T, ltb}
 use Rattle.std.proofs.Common.{arith}
 use Rattle.machine.specs.Words.{number}
 use Rattle.machine.specs.Memory.{Memory, code_end}
@@ -27,6 +27,8 @@ same_number (suc k) m m' b h = rw (h b (omega arith), same_number k m m' (b + 1)
 -- the length of an instruction with a constant and a register byte
 ten : (c r : Bool) (n : ℕ) → n ≡ 1 + cond r 1 0 + cond c 8 0 → T c → T r → 10 ≤ n
 ten true true n e t u = omega arith
+ten false r n e t u = elim t [ ]
+ten true false n e t u = elim u [ ]
 
 module _ (m m' : Memory) (a : ℕ) (s : SameButFillers m m' a) where
   same_first : M₁ m a ≡ M₁ m' a

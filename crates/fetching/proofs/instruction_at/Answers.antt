@@ -1,0 +1,51 @@
+-- A law of `Parse` for each way out, in the order of the checks. What is past all of them is the instruction. A `let` names the record of facts at a place
+-- by its type, for which `search` finds the place: `there` where the first byte is, `whole` where no byte is missing, `sized` behind the table's length.
+use Rattle.fetching.proofs.Parse.{room, end_lent, end_inside, outside, no_function_lem, cut_short, names_none, halts, fetches, second}
+use Prim.Native.Nat.{◌-◌}
+use lib.ListN.{length}
+use mathlib.Core.Path.{◌∙◌}
+use native.Mathlib.Omega.{arith}
+use borrow.Author.Rules.{rules}
+use Rattle.fetching.proofs.instruction_at.Goals as goal
+
+pub returns-then-n-address : goal.returns-then-n-address
+returns-then-n-address c = search (rules, end_lent, outside)
+
+pub bounds-memory-at : goal.bounds-memory-at
+bounds-memory-at c =
+    omega (arith, c.if-n-address.false, end_inside _ _ _ _ c.code_end-n.ensures)
+
+pub returns-then-not-known : goal.returns-then-not-known
+returns-then-not-known c = search (rules, end_lent, no_function_lem)
+
+pub returns-then-not-whole : goal.returns-then-not-whole
+returns-then-not-whole c = search (rules, end_lent, cut_short)
+
+pub register_byte-pair-requires : goal.register_byte-pair-requires
+register_byte-pair-requires c =
+    λ h. omega (
+      arith,
+      second _ (λ e. h (c.byte_of-byte.ensures ∙ e)),
+      room c.size_of-size.result (c.code_end-n.result - c.args.address) c.if-not-whole.false,
+      end_inside _ _ _ _ c.code_end-n.ensures,
+    )
+
+pub returns-then-misnamed : goal.returns-then-misnamed
+returns-then-misnamed c = search (rules, end_lent, names_none)
+
+pub returns-then-code-eq-HALT : goal.returns-then-code-eq-HALT
+returns-then-code-eq-HALT c = search (rules, end_lent, halts)
+
+pub constant_of-requires : goal.constant_of-requires
+constant_of-requires c =
+    omega (
+      arith,
+      room c.size_of-size.result (c.code_end-n.result - c.args.address) c.if-not-whole.false,
+      end_inside _ _ _ _ c.code_end-n.ensures,
+    )
+
+pub returns : goal.returns
+returns c =
+    fetches _ _ _ _ (end_lent _ _ _ _ c.code_end-n.ensures) c.if-n-address.false c.functions_of-functions.ensures _ c.if-not-known.false c.size_of-size.ensures _ _ _ c.if-not-whole.false
+    c.byte_of-byte.ensures c.register_byte-pair.ensures c.misnamed.ensures _ _ c.if-misnamed.false c.if-code-eq-HALT.false
+    c.constant_of.ensures c.sum.ensures
