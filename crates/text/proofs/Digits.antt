@@ -1,16 +1,16 @@
 -- Digits and numbers: one law for each way out, and for each turn of a loop. Assumes nothing.
 use mathlib.Core.Path.{◌≡◌, refl, ap, sym, ◌∙◌}
-use mathlib.Core.Bool.{Bool, true, false, cond, ◌&&◌, ◌||◌}
-use mathlib.Core.List.{List, [], ◌∷◌, ◌++◌}
+use mathlib.Core.Bool.{Bool, true, false, ◌&&◌}
+use mathlib.Core.List.{List}
 use Prim.Native.Nat.{ℕ, suc, ◌+◌, ◌-◌, ◌*◌, ◌^◌, ◌≤◌, ◌<◌}
 use native.Mathlib.Omega.{arith}
 use native.Mathlib.Nat.{pow-le-pow_right, pow-succ'}
 use native.Mathlib.Numerals.{add-one}
-use lib.Dec.{leb, ltb}
+use lib.Dec.{leb}
 use lib.ListN.{length, drop, get_or, drop_of_length-le}
 use lib.Seq.{drop-cons}
-use borrow.Author.Tests.{le-leb, lt-leb, lt-ltb, le-ltb, leb-true, leb-false}
-use Rattle.text.specs.Hex.{is_hex, hex_value, all_hex, hex_from, hex_number, hex_bytes}
+use borrow.Author.Tests.{le-leb, lt-leb, leb-false}
+use Rattle.text.specs.Hex.{is_hex, hex_value, all_hex, hex_from, hex_number}
 
 -- DIGITS, by the run in which a byte may stand
 pub below_58 : (c : ℕ) → c < 58 → leb 48 c ≡ is_hex c

@@ -1,5 +1,5 @@
 -- Laws of hex digits. Assumes nothing.
-use Rattle.std.specs.Prelude.{◌≡◌, refl, Bool, true, false, ◌&&◌, ◌||◌, List, [], ◌∷◌, ℕ, suc, ◌+◌, ◌/◌, eqb, length}
+use Rattle.std.specs.Prelude.{◌≡◌, refl, Bool, true, false, ◌&&◌, ◌||◌, List, [], ◌∷◌, ℕ, ◌/◌, eqb, length}
 use Rattle.std.proofs.Common.{arith, eqb-true}
 use Rattle.text.specs.Hex.{is_hex, all_hex, hex_bytes}
 use Rattle.text.specs.Parts.{has}

@@ -1,11 +1,11 @@
 -- Laws of parted texts. Assumes nothing.
-use Rattle.std.specs.Prelude.{◌≡◌, Bool, true, false, cond, ◌||◌, ℕ, suc, ◌+◌, ◌≤◌, ◌<◌, eqb, length, take, drop}
+use Rattle.std.specs.Prelude.{◌≡◌, Bool, true, false, ◌||◌, ℕ, ◌+◌, ◌≤◌, ◌<◌, eqb, length, take, drop}
 use Rattle.std.proofs.Math.Path.{refl}
 use Rattle.std.proofs.Common.{ap, sym, ◌∙◌, arith, length-append, take_at, eqb-true, eq-eqb}
-use mathlib.Core.List.{List, [], ◌∷◌, ◌++◌}
-use Rattle.std.proofs.Math.Seq.{drop-append-add, take-length, drop-length}
+use mathlib.Core.List.{[], ◌∷◌, ◌++◌}
+use Rattle.std.proofs.Math.Seq.{drop-append-add, take-length}
 use Rattle.laws.specs.Tests.{neither}
-use Rattle.text.specs.Parts.{Text, has, before, behind, line_feed, longer, lines}
+use Rattle.text.specs.Parts.{Text, has, before, behind, line_feed, lines}
 
 pub has_joined : (c : ℕ) (l m : Text) → has c (l ++ m) ≡ (has c l || has c m)
 unfolding has

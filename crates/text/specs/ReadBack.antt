@@ -1,13 +1,12 @@
 -- A decimal field is read back as it was written, whatever stands before it, where no digit stands behind it. Assumes nothing.
-use Rattle.std.specs.Prelude.{ℕ, zero, suc, ◌+◌, ◌-◌, ◌*◌, ◌^◌, ◌≤◌, ◌<◌, Bool, true, false, cond, not, ◌&&◌, ◌||◌, List, [], ◌∷◌, ◌++◌, ◌≡◌, refl, eqb, drop}
+use Rattle.std.specs.Prelude.{ℕ, zero, suc, ◌+◌, ◌-◌, ◌*◌, ◌^◌, ◌≤◌, ◌<◌, Bool, true, false, not, ◌&&◌, ◌||◌, List, [], ◌∷◌, ◌++◌, ◌≡◌, refl, eqb}
 use native.Mathlib.Omega.{arith}
-use Rattle.std.proofs.Common.{sym, ◌∙◌}
+use Rattle.std.proofs.Common.{◌∙◌}
 use Rattle.std.proofs.Math.Path.{ap}
 use borrow.Author.Tests.{lt-ltb, ne_eqb, eq-eqb}
 use Rattle.std.proofs.Math.ListN.{length, get_or, length-append, get_or-append}
 use Rattle.std.proofs.Math.Seq.{get_or-append-add, drop_at}
-use Rattle.text.specs.declared.reading.Field.{Field}
-use Rattle.text.specs.declared.reading.Field.TheVariants.{Number as number, NoNumber as no_number}
+use Rattle.text.specs.declared.reading.Field.TheVariants.{Number as number}
 use Rattle.text.specs.Decimal.{decimal, is_digit, all_digits, read_behind, decimal_one, decimal_some, decimal_digits, decimal_value, no_leading_zero}
 use Rattle.text.specs.Field.{starts_number, read_on, field_at, ended_by, field_ended}
 

@@ -3,7 +3,9 @@
 use Rattle.fetching.proofs.Parse.{room, end_lent, end_inside, outside, no_function_lem, cut_short, names_none, halts, fetches, second}
 use Prim.Native.Nat.{◌-◌}
 use lib.ListN.{length}
-use mathlib.Core.Path.{◌∙◌}
+use mathlib.Core.Path.{◌∙◌, ap}
+use mathlib.Core.Bool.{not}
+use borrow.Author.Tests.{lt-ltb, le-leb}
 use native.Mathlib.Omega.{arith}
 use borrow.Author.Rules.{rules}
 use Rattle.fetching.proofs.instruction_at.Goals as goal
@@ -26,7 +28,7 @@ register_byte-pair-requires c =
     λ h. omega (
       arith,
       second _ (λ e. h (c.byte_of-byte.ensures ∙ e)),
-      room c.size_of-size.result (c.code_end-n.result - c.args.address) c.if-not-whole.false,
+      c.if-not-whole.false,
       end_inside _ _ _ _ c.code_end-n.ensures,
     )
 
@@ -40,12 +42,12 @@ pub constant_of-requires : goal.constant_of-requires
 constant_of-requires c =
     omega (
       arith,
-      room c.size_of-size.result (c.code_end-n.result - c.args.address) c.if-not-whole.false,
+      c.if-not-whole.false,
       end_inside _ _ _ _ c.code_end-n.ensures,
     )
 
 pub returns : goal.returns
 returns c =
-    fetches _ _ _ _ (end_lent _ _ _ _ c.code_end-n.ensures) c.if-n-address.false c.functions_of-functions.ensures _ c.if-not-known.false c.size_of-size.ensures _ _ _ c.if-not-whole.false
+    fetches _ _ _ _ (end_lent _ _ _ _ c.code_end-n.ensures) c.if-n-address.false c.functions_of-functions.ensures _ (ap not (lt-ltb _ _ c.if-not-known.false)) c.size_of-size.ensures _ _ _ (ap not (le-leb _ _ c.if-not-whole.false))
     c.byte_of-byte.ensures c.register_byte-pair.ensures c.misnamed.ensures _ _ c.if-misnamed.false c.if-code-eq-HALT.false
     c.constant_of.ensures c.sum.ensures

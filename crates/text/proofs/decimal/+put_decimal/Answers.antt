@@ -1,4 +1,3 @@
-use Prim.Native.Nat.{ℕ, ◌<◌}
 use mathlib.Core.Path.{◌∙◌}
 use native.Mathlib.Nat.{mod-lt}
 use native.Mathlib.Omega.{arith}
@@ -26,7 +25,7 @@ returns-then-n-lt10 t c =
 
 pub put_decimal-next-requires : goal.put_decimal-next-requires
 put_decimal-next-requires t c =
-    (omega (arith, tenth_less c.args.n (omega arith), c.requires.0), omega arith)
+    (omega (arith, tenth_less c.args.n (omega arith), c.requires), omega arith)
 
 pub overflow_cast-n-2 : goal.overflow_cast-n-2
 overflow_cast-n-2 t c = omega (arith, mod-lt c.args.n {m = 10} (omega arith))
