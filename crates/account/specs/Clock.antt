@@ -1,11 +1,11 @@
 -- One clock in which nothing stops preserves the relation: one lemma a level, each splitting its own level only.
 use Rattle.std.specs.Prelude.{ℕ, suc, ◌+◌, ◌≤◌, ◌<◌, Bool, cond, ◌&&◌, ◌≡◌, length}
 use Rattle.std.proofs.Math.Bool.{true, false}
-use Rattle.std.proofs.Common.{true≢false, inl, inr, ◌∙◌, subst}
+use Rattle.std.proofs.Common.{true≢false, inl, inr, ◌∙◌}
 use Rattle.std.proofs.Math.Path.{refl, ap, sym}
 use native.Mathlib.Omega.{arith}
 use Rattle.std.proofs.Math.Decide.{dec_lt}
-use Rattle.account.specs.Names.{Instruction, StageD, bubble_d, in_d, StageE, bubble_e, in_e, bubble_m, in_m, bubble_w, in_w}
+use Rattle.account.specs.Names.{Instruction, StageD, bubble_d, in_d, bubble_e, in_e, bubble_m, in_m, bubble_w, in_w}
 use Rattle.machine.specs.Memory.{value}
 use Rattle.machine.specs.Table.{is, ret}
 use Rattle.machine.specs.Fetch.{fetch}

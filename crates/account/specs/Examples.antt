@@ -2,7 +2,7 @@
 use Rattle.std.specs.Prelude.{ℕ, suc, ◌≤◌, ◌<◌, Bool, true, false, List, ◌∷◌, ◌++◌, ◌≡◌, refl, length, get_or, replicate}
 use Rattle.std.proofs.Common.{true≢false, ap, sym, ◌∙◌, arith}
 use Rattle.account.specs.Names.{Status, aok, hlt, adr, ins, Codes, Kinds}
-use Rattle.machine.specs.Types.{status_number, is_bad, is_set}
+use Rattle.machine.specs.Types.{status_number, is_set}
 use Rattle.machine.specs.Memory.{Memory, lent, Registers}
 use Rattle.machine.specs.Table.{unknown_byte}
 use Rattle.machine.specs.Plain.{Plain, is_stopped, steps}

@@ -16,7 +16,7 @@ use Rattle.machine.specs.Memory.{Memory, inside, store}
 use Rattle.machine.specs.Table.{Row, Sets, no_codes, by_op, by_sum, row_of, table, is, cmov, jump, ret, Which, none, r_a, r_b, rsp}
 use Rattle.machine.specs.Fetch.{fetch, parsed, checked, not_in_table, stopping}
 use Rattle.machine.specs.Stages.{register, decode, execute, access, outcome, condition, loads, stores, loading, storing, access_address, patches}
-use Rattle.machine.specs.Stages.{access_status, codes_by, new_codes, new_memory, new_registers, loaded_target, source_a, source_b, turned, straight, next_address}
+use Rattle.machine.specs.Stages.{access_status, codes_by, new_codes, new_memory, new_registers, loaded_target, source_b, turned, straight, next_address}
 use Rattle.machine.specs.Plain.{Plain, is_stopped, fetched, decoded, executed, accessed, performed, stopped_by, step, steps}
 use Rattle.clocked.specs.Prediction.{Core, guess, predicted_next, mispredicted, meets, awaited_a, load_use}
 use Rattle.clocked.specs.Charges.{reason_behind, retired_of, amount, reason_of, charge, charges, due}

@@ -1,6 +1,6 @@
 -- Where the premise breaks: the first instruction at which document 01's does, and the first at which the weakest does, and what either says of the
 -- pipeline.
-use Rattle.std.specs.Prelude.{ℕ, zero, suc, ◌+◌, ◌≤◌, ◌<◌, Bool, true, false, cond, ◌↔◌, ◌≡◌, refl, eqb, length}
+use Rattle.std.specs.Prelude.{ℕ, zero, suc, ◌≤◌, ◌<◌, Bool, true, false, cond, ◌↔◌, ◌≡◌, refl, eqb, length}
 use Rattle.std.proofs.Common.{true≢false, sym, ◌∙◌, arith}
 use Rattle.std.proofs.Math.Dec.{eqb-suc-zero}
 use Rattle.laws.specs.Tests.{neither}

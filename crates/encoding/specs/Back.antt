@@ -126,6 +126,7 @@ constant_back f n v e h = go (ltb 8 n) e
 -- a test that fails, joined by "and" to one that may hold
 named_small : (t : Bool) (x : ℕ) → t && ltb 14 x ≡ false → T t → x < 15
 named_small true x e u = omega (arith, ltb-false 14 x e)
+named_small false x e u = elim u [ ]
 
 few_functions : (code : ℕ) → (row_of code).functions < 16
 unfolding table

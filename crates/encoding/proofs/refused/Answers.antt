@@ -1,0 +1,14 @@
+use mathlib.Core.Path.{◌∙◌}
+use native.Mathlib.Omega.{arith}
+use Rattle.encoding.proofs.Ways.{no_such_code, no_such_function, by_registers}
+use Rattle.encoding.proofs.refused.Goals as goal
+
+pub returns-then-code : goal.returns-then-code
+returns-then-code c = no_such_code _ (omega arith)
+
+pub returns-then-wide-function : goal.returns-then-wide-function
+returns-then-wide-function c = no_such_function _ _ (c.wide.ensures ∙ c.functions_of.ensures) c.if-wide-function.true
+
+pub returns : goal.returns
+returns c =
+    by_registers _ _ _ _ (c.wide.ensures ∙ c.functions_of.ensures) c.if-wide-function.false c.names_a.ensures c.names_b.ensures

@@ -1,0 +1,9 @@
+use Rattle.report_lines.proofs.Ways.{kinds}
+use borrow.Author.Rules.{rules}
+use Rattle.text.specs.Bytes.{bytes}
+use native.Mathlib.Omega.{arith}
+use Rattle.report_lines.proofs.put_kinds.Goals as goal
+
+pub returns : goal.returns
+unfolding bytes
+returns c = record { put = kinds _ c.put_number-a.ensures.put c.put_number-b.ensures.put c.put_number.ensures.put; upper_bound = omega arith }
