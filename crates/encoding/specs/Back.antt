@@ -1,19 +1,19 @@
 -- "fetching those bytes gives it back" (02, #104), and two instructions with the same bytes are the same. Assumes nothing.
-use Rattle.std.specs.Prelude.{ℕ, zero, suc, ◌+◌, ◌-◌, ◌*◌, ◌/◌, ◌%◌, ◌^◌, ◌<◌, ◌≤◌, ◌≡◌, refl, Bool, true, false, ◌&&◌, ◌||◌, T, leb, ltb, eqb, get_or, drop}
+use Rattle.std.specs.Prelude.{ℕ, zero, suc, ◌+◌, ◌-◌, ◌*◌, ◌/◌, ◌%◌, ◌^◌, ◌<◌, ◌≡◌, refl, Bool, true, false, ◌&&◌, ◌||◌, T, leb, ltb, eqb, get_or, drop}
 use Rattle.std.proofs.Math.Path.{ap}
-use Rattle.std.proofs.Common.{sym, ◌∙◌, div-add-mod', pow-suc, arith, eqb→eq, ltb→lt, length-append}
+use Rattle.std.proofs.Common.{sym, ◌∙◌, div-add-mod', pow-suc, arith, ltb→lt, length-append}
 use Rattle.std.proofs.Math.Bool.{cond}
 use mathlib.Core.List.{List, [], ◌∷◌, ◌++◌}
 use Rattle.std.proofs.Math.ListN.{length, take}
 use Rattle.std.proofs.Math.Seq.{take_at, take-length, append_snoc, get_or-append_seam, drop-append_seam}
-use borrow.Author.Tests.{leb-false, ltb-false, ne_eqb, le-ltb, lt-ltb}
+use borrow.Author.Tests.{leb-false, ltb-false, ne_eqb, le-ltb}
 use Rattle.machine.specs.declared.Instruction.{Instruction}
-use Rattle.machine.specs.declared.Status.TheVariants.{Aok as aok, Hlt as hlt}
+use Rattle.machine.specs.declared.Status.TheVariants.{Aok as aok}
 use Rattle.machine.specs.declared.Fault.TheVariants.{NoFault as no_fault}
 use Rattle.machine.specs.Words.{sum, number}
 use Rattle.machine.specs.Memory.{lent, seen_to, code_end}
-use Rattle.machine.specs.Table.{Row, RegisterByte, no_byte, both_named, only_b, only_a, table, row_of}
-use Rattle.machine.specs.Fetch.{size_at, own_bytes, stopping, names_a, names_b, half, misnamed, checked, constant_in, parsed, fetch}
+use Rattle.machine.specs.Table.{RegisterByte, no_byte, both_named, only_b, only_a, table, row_of}
+use Rattle.machine.specs.Fetch.{size_at, own_bytes, names_a, names_b, half, misnamed, checked, constant_in, parsed, fetch}
 use Rattle.laws.specs.Tests.{neither}
 use Rattle.published.specs.Lengths.{every_row, length_rule, parts, has_register_byte}
 use Rattle.encoding.specs.Encode.{Fields, fields, encode_refused, least_first, pair, tail, form}

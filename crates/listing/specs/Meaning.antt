@@ -13,7 +13,7 @@ use Rattle.listing.specs.Grammar.{Record, address_of, bytes_of, end_of, laid, im
 pub fits : {size free : ℕ} {rs : List Record} {s : Record} → Listing size free rs → Memᴰ s rs → (free ≤ address_of s) × (end_of s ≤ size)
 unfolding end_of
 fits end m = absurd (Memᴰ.not-nil m)
-fits {size} {free} {s = s} (more {r = r} {rs = rs} w above within rest) m = go (Memᴰ.cases-cons m) (λ n. fits rest n)
+fits {size} {free} {s = s} (more {r = r} {rs = rs} w above within rest) m = go (Memᴰ.cases_cons m) (λ n. fits rest n)
   where
     go : (s ≡ r) ⊎ Memᴰ s rs → (Memᴰ s rs → (end_of r ≤ address_of s) × (end_of s ≤ size)) → (free ≤ address_of s) × (end_of s ≤ size)
     go (inl e) ih = rw e (above, within)
@@ -55,7 +55,7 @@ lies : {size free : ℕ} {rs : List Record} {s : Record} → Listing size free r
     → (k : ℕ) → k < length (bytes_of s) → get_or (laid rs m) (address_of s + k) 0 ≡ get_or (bytes_of s) k 0
 unfolding laid end_of
 lies end n m l k h = absurd (Memᴰ.not-nil n)
-lies {size} {s = s} (more {r = r} {rs = rs} w above within rest) n m l k h = go (Memᴰ.cases-cons n) (λ q. lies rest q (sets m (address_of r)
+lies {size} {s = s} (more {r = r} {rs = rs} w above within rest) n m l k h = go (Memᴰ.cases_cons n) (λ q. lies rest q (sets m (address_of r)
     (bytes_of r)) (length-sets m (address_of r) (bytes_of r) ∙ l) k h)
   where
     u : List ℕ

@@ -1,5 +1,4 @@
 use Rattle.report_lines.proofs.Ways.{kinds}
-use borrow.Author.Rules.{rules}
 use Rattle.text.specs.Bytes.{bytes}
 use native.Mathlib.Omega.{arith}
 use Rattle.report_lines.proofs.put_kinds.Goals as goal

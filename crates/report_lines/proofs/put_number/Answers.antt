@@ -1,5 +1,4 @@
 use Rattle.report_lines.proofs.Ways.{number_line_lem}
-use borrow.Author.Rules.{rules}
 use native.Mathlib.Omega.{arith}
 use Rattle.report_lines.proofs.put_number.Goals as goal
 

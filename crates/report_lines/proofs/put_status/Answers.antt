@@ -2,7 +2,6 @@ use Rattle.text.specs.Bytes.{bytes}
 use Rattle.report_lines.specs.Lines.{line, status_text, status_line}
 use Rattle.machine.specs.declared.Status.TheVariants.{Aok as aok, Hlt as hlt, Adr as adr, Ins as ins}
 use Rattle.report_lines.proofs.Ways.{status_line_lem}
-use borrow.Author.Rules.{rules}
 use native.Mathlib.Omega.{arith}
 use Rattle.report_lines.proofs.put_status.Goals as goal
 

@@ -1,0 +1,78 @@
+use mathlib.Core.Logic.{⊎_elim}
+use mathlib.Core.Path.{◌≡◌, refl, sym, ◌∙◌}
+use Prim.Native.Nat.{◌-◌, ◌≤◌}
+use native.Mathlib.Omega.{arith}
+use lib.ListN.{length}
+use borrow.Author.Rules.{rules}
+use Rattle.machine.specs.Memory.{lent, through}
+use Rattle.clocked.specs.Pipeline.{piped_of}
+use Rattle.pipe.specs.Parts.{whole}
+use Rattle.pipe.proofs.Runs.{Here, here_first, here_next, here_stopped, at_budget, at_stop, same_start, same_lengths, small_enough}
+use Rattle.pipe.proofs.running.looped.Goals as goal
+
+pub loop-done-init : goal.loop-done-init
+loop-done-init c =
+    let long_of : length c.args.pipeline.registers ≡ 15 = search rules in (
+      here_first _ (lent c.args.memory.now) c.flow_of-flow.ensures long_of c.tally_of-tally.ensures c.requires.1
+          (omega (arith, c.requires.0)),
+      omega arith,
+      refl,
+    )
+
+pub overflow_sub-place : goal.overflow_sub-place
+overflow_sub-place c =
+    omega (arith, c.loop-done.invariant.0.entered)
+
+pub counted-tally-requires : goal.counted-tally-requires
+counted-tally-requires c =
+    small_enough _ _ (omega arith) c.loop-done.invariant.0.small
+
+pub overflow_add-done : goal.overflow_add-done
+overflow_add-done c =
+    omega (arith, c.loop-done-test.true, c.ranges.budget)
+
+pub advance-flow-requires : goal.advance-flow-requires
+advance-flow-requires c =
+    (c.loop-done.invariant.0.long, c.loop-done.invariant.0.ahead)
+
+pub loop-done-smaller : goal.loop-done-smaller
+loop-done-smaller c =
+    omega (arith, c.loop-done-test.true)
+
+pub loop-done-preserved : goal.loop-done-preserved
+loop-done-preserved c =
+    let inv = c.loop-done.invariant in (
+      here_next inv.0 c.is_bad.ensures c.if-is_bad.false c.retires-retired.ensures c.counted-tally.ensures
+          c.status_after-status.ensures c.note.ensures c.note-in-loop-done.ensures c.bad_in_w.ensures c.if-bad_in_w.false
+          c.advance-flow.ensures.0 c.advance-flow.ensures.1 c.advance-flow.ensures.2,
+      omega (arith, c.loop-done-test.true),
+      (search (rules, c.advance-flow.auto)) ∙ inv.2,
+    )
+
+-- the ways out: the budget is spent, the machine had stopped, it stops in this clock
+pub returns : goal.returns
+returns c =
+    let inv = c.loop-done.invariant in
+    let lent₀ = lent c.args.memory.now in
+    let from = same_start lent₀ c.flow_of-flow.ensures c.tally_of-tally.ensures in
+    ⊎_elim
+    (λ (over, ea, ey, et, ex, ez, ed). at_budget lent₀ _ from inv.0 c.put_together.ensures ez ea ey et ex (omega (arith, inv.1)))
+    (⊎_elim
+    (λ (turn, bad, stopped, ea, ey, et, ex, ez, ed).
+    at_stop lent₀ _ from inv.0 c.put_together.ensures ez ea ey et ex inv.1 (sym bad.ensures ∙ stopped.taken))
+    (λ (turn, bad, runs, w, retired, counted, status, lent, entered, addresses, known, lent', timed, cycles, known', tested, stops, share, blamed, ea, ey, et, ex, ez, ed).
+    let h =
+    here_stopped inv.0 bad.ensures runs.left retired.ensures counted.ensures status.ensures entered.ensures timed.ensures
+    tested.ensures stops.taken blamed.ensures in
+    at_stop lent₀ _ from h.0 c.put_together.ensures ez ea ey et ex (omega (arith, turn.taken)) h.1))
+    c.loop-done-test.branch
+
+pub shape_of-memory : goal.shape_of-memory
+shape_of-memory c =
+    c.loop-done.invariant.2
+
+pub shape_of-addresses : goal.shape_of-addresses
+shape_of-addresses c = (same_lengths _ _ _ _ _ _ _ (returns c)).0
+
+pub shape_of-cycles : goal.shape_of-cycles
+shape_of-cycles c = (same_lengths _ _ _ _ _ _ _ (returns c)).1
