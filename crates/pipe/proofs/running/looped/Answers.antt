@@ -9,6 +9,7 @@ use Rattle.clocked.specs.Pipeline.{piped_of}
 use Rattle.pipe.specs.Parts.{whole}
 use Rattle.pipe.proofs.Runs.{Here, here_first, here_next, here_stopped, at_budget, at_stop, same_start, same_lengths, small_enough}
 use Rattle.pipe.proofs.running.looped.Goals as goal
+use Rattle.pipe.proofs.running.looped.Goals.{else-loop-done-test, then-loop-done-test+then-is_bad, then-loop-done-test+else-is_bad+then-bad_in_w}
 
 pub loop-done-init : goal.loop-done-init
 loop-done-init c =
@@ -49,23 +50,24 @@ loop-done-preserved c =
       (search (rules, c.advance-flow.auto)) ∙ inv.2,
     )
 
--- the ways out: the budget is spent, the machine had stopped, it stops in this clock
 pub returns : goal.returns
 returns c =
     let inv = c.loop-done.invariant in
     let lent₀ = lent c.args.memory.now in
     let from = same_start lent₀ c.flow_of-flow.ensures c.tally_of-tally.ensures in
-    ⊎_elim
-    (λ (over, ea, ey, et, ex, ez, ed). at_budget lent₀ _ from inv.0 c.put_together.ensures ez ea ey et ex (omega (arith, inv.1)))
-    (⊎_elim
-    (λ (turn, bad, stopped, ea, ey, et, ex, ez, ed).
-    at_stop lent₀ _ from inv.0 c.put_together.ensures ez ea ey et ex inv.1 (sym bad.ensures ∙ stopped.taken))
-    (λ (turn, bad, runs, w, retired, counted, status, lent, entered, addresses, known, lent', timed, cycles, known', tested, stops, share, blamed, ea, ey, et, ex, ez, ed).
-    let h =
-    here_stopped inv.0 bad.ensures runs.left retired.ensures counted.ensures status.ensures entered.ensures timed.ensures
-    tested.ensures stops.taken blamed.ensures in
-    at_stop lent₀ _ from h.0 c.put_together.ensures ez ea ey et ex (omega (arith, turn.taken)) h.1))
-    c.loop-done-test.branch
+    let end = c.put_together.ensures in
+    elim c.loop-done-test.branch [
+      | else-loop-done-test w ↦
+          at_budget lent₀ _ from inv.0 end w.blame-is w.addresses-is w.cycles-is w.tally-is w.status-is (omega (arith, inv.1))
+      | then-loop-done-test+then-is_bad w ↦
+          at_stop lent₀ _ from inv.0 end w.blame-is w.addresses-is w.cycles-is w.tally-is w.status-is inv.1 (sym w.is_bad.ensures ∙ w.if-is_bad.true)
+      | then-loop-done-test+else-is_bad+then-bad_in_w w ↦
+          let h =
+          here_stopped inv.0 w.is_bad.ensures w.if-is_bad.false w.retires-retired.ensures w.counted-tally.ensures w.status_after-status.ensures w.note.ensures
+          w.note-in-loop-done.ensures w.bad_in_w.ensures w.if-bad_in_w.true w.blame_in-blame.ensures
+          in
+          at_stop lent₀ _ from h.0 end w.blame-is w.addresses-is w.cycles-is w.tally-is w.status-is (omega (arith, w.loop-done-test.true)) h.1
+    ]
 
 pub shape_of-memory : goal.shape_of-memory
 shape_of-memory c =
