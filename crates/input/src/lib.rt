@@ -3,8 +3,10 @@
 #![tactic(auto)]
 
 ghost use Rattle.std.specs.Prelude.{◌≤◌, length};
+ghost use Rattle.std.specs.Io.{ReadsAtMost};
 
-use libc::{EINTR, STDIN_FILENO};
+use std::io;
+use std::io::{ErrorKind, Read};
 
 // How many bytes were read before the input ended or the buffer was full, and whether a read failed.
 #[derive(Clone, Copy)]
@@ -15,43 +17,45 @@ pub struct Taken {
 
 // One read, tried again where a signal interrupted it before a byte came. A proved loop has to end, so it counts down, from a number that
 // no run uses up.
-fn read_some(buffer: &mut [u8]) -> isize {
-    let mut tries = u64::MAX;
-    while 0 < tries {
-        let got = libc::read(STDIN_FILENO, buffer);
-        if 0 <= got {
-            return got;
+fn read_some<R: Read>(reader: &mut R, buffer: &mut [u8]) -> io::Result<usize>
+    ensures { ReadsAtMost result buffer.new }
+{
+    for _ in 0..u64::MAX {
+        match reader.read(buffer) {
+            Ok(got) => return Ok(got),
+            Err(e) => {
+                if e.kind() != ErrorKind::Interrupted {
+                    return Err(e);
+                }
+            }
         }
-        if os::errno() != EINTR {
-            return -1;
-        }
-        tries -= 1;
     }
-    -1
+    Err(ErrorKind::Interrupted.into())
 }
 
 // Reads until the input ends, the buffer is full or a read fails.
-pub fn read_input(buffer: &mut [u8]) -> Taken
+pub fn read_input<R: Read>(reader: &mut R, buffer: &mut [u8]) -> Taken
     ensures { result.length ≤ length buffer.old }
 {
     let mut done: usize = 0;
     while done < buffer.len() {
-        let part = &mut buffer[done..];
-        let got = read_some(part);
-        if got < 0 {
-            return Taken {
-                failed: true,
-                length: 0,
-            };
+        match read_some(reader, &mut buffer[done..]) {
+            Ok(more) => {
+                if more == 0 {
+                    return Taken {
+                        failed: false,
+                        length: done,
+                    };
+                }
+                done += more;
+            }
+            Err(_) => {
+                return Taken {
+                    failed: true,
+                    length: 0,
+                };
+            }
         }
-        let more = io::count(got, part);
-        if more == 0 {
-            return Taken {
-                failed: false,
-                length: done,
-            };
-        }
-        done += more;
     }
     Taken {
         failed: false,

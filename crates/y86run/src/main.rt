@@ -2,23 +2,25 @@
 
 #![tactic(auto)]
 
-use libc::{STDERR_FILENO, STDOUT_FILENO};
+use std::io;
+use std::io::Print;
 
 // One byte more than the longest image is read, so that a longer one is seen to be too long.
-fn main() {
+fn main(rt: HostRuntime) -> io::Result<()> {
     let mut image = [0u8; 4097];
-    let taken = input::read_input(&mut image);
+    let taken = input::read_input(&mut rt.stdin(), &mut image);
     let n = taken.length;
     if taken.failed {
-        io::write_all(STDERR_FILENO, b"y86run: standard input cannot be read\n");
-        return;
+        return rt
+            .stderr()
+            .write_all(b"y86run: standard input cannot be read\n");
     }
     let mut out = [0u8; 652];
     let m = report::report_image(&mut image[..n], &mut out);
-    if !io::write_all(STDOUT_FILENO, &out[..m]) {
-        io::write_all(
-            STDERR_FILENO,
-            b"y86run: standard output cannot be written\n",
-        );
+    if rt.stdout().write_all(&out[..m]).is_err() {
+        return rt
+            .stderr()
+            .write_all(b"y86run: standard output cannot be written\n");
     }
+    Ok(())
 }
