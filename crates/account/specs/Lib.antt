@@ -1,30 +1,15 @@
--- Demand 3. To be read: Statement, and Seen for its weakest premise. The proof: Laws of the instruction set, Signals of the controls, the Relation, one
--- Clock of it, Timing, the Reach and the Sight of a fetch, Retirement, and the Theorem. What follows from it: Uses, Prefix, Midrun, TwoRuns. Without
--- the premise: Own, Contents. Of the premise: that it is needed (Back, Needed), Decide, DecideSeen, Examples,
--- SeenExamples, and where it breaks, Watch and Watching.
+-- Demand 3. To be read: Statement, and Seen for its weakest premise; of what follows from it Uses, Prefix, Midrun, TwoRuns; and of the premise Needed (the
+-- exception), Decide, DecideSeen, and where it breaks, Watch and Watching. The theorems are in proofs/, those about a file here in the one of the same name.
 pub mod Names
 pub mod Statement
 pub mod Seen
-pub mod Laws
-pub mod Signals
-pub mod Relation
-pub mod Clock
-pub mod Timing
-pub mod Reach
-pub mod Sight
-pub mod Retirement
-pub mod Theorem
-pub mod Back
 pub mod Uses
 pub mod Prefix
 pub mod Midrun
 pub mod TwoRuns
-pub mod Own
-pub mod Needed
 pub mod Contents
+pub mod Needed
 pub mod Decide
 pub mod DecideSeen
-pub mod Examples
-pub mod SeenExamples
 pub mod Watch
 pub mod Watching

@@ -1,3 +1,3 @@
-// Demand 3, proved of the definitions: theorems only, in specs/.
+// Demand 3, proved of the definitions: what is said in specs/, its theorems in proofs/, and no code.
 
 #![tactic(auto)]

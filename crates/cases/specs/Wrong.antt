@@ -13,7 +13,7 @@ use Rattle.clocked.specs.Charges.{due}
 use Rattle.clocked.specs.Pipeline.{Piped, pipe_start}
 use Rattle.machine.specs.Runs.{PlainAnswer, plain_answer, plain_limit, plain_run, laid}
 use Rattle.clocked.specs.PipeRuns.{PipeAnswer, pipe_answer, pipe_by}
-use Rattle.account.specs.Sight.{both}
+use Rattle.account.proofs.Sight.{both}
 use Rattle.account.specs.Statement.{Start, plain_from, kept_of, Agrees}
 use Rattle.cases.specs.Names.{Status, Codes, Machine, Pipeline, hlt}
 use Rattle.cases.specs.Computing.{computing}

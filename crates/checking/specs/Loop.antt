@@ -21,7 +21,7 @@ use Rattle.clocked.specs.declared.Kept.TheVariants.{NoneKept as none_kept}
 use Rattle.laws.specs.Tests.{neither}
 use Rattle.laws.specs.Window.{steps_keep}
 use Rattle.account.specs.Statement.{kept_of}
-use Rattle.account.specs.Timing.{due_most}
+use Rattle.account.proofs.Timing.{due_most}
 use Rattle.trace.specs.Text.{plain_line}
 use Rattle.trace.specs.declared.Verdict.{Verdict}
 use Rattle.trace.specs.Verdict.{accepted, wrong_by, written_into, begins, judged, trace_limit, verdict}

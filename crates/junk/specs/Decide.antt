@@ -10,8 +10,8 @@ use Rattle.std.proofs.Math.ListN.{get_or-eq_default}
 use Rattle.machine.specs.Memory.{Memory, holding, size}
 use Rattle.machine.specs.Plain.{Plain, is_stopped, steps}
 use Rattle.published.specs.Fetching.{M₁}
-use Rattle.account.specs.Sight.{both, runs_before}
-use Rattle.account.specs.Timing.{up_to}
+use Rattle.account.proofs.Sight.{both, runs_before}
+use Rattle.account.proofs.Timing.{up_to}
 use Rattle.account.specs.Decide.{all}
 use Rattle.junk.specs.Statement.{looks_at, reads_byte, Never, NoPart, DifferOnlyAt}
 

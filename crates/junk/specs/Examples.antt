@@ -16,7 +16,8 @@ use Rattle.clocked.specs.Pipeline.{clocks}
 use Rattle.clocked.specs.Premise.{Premise}
 use Rattle.clocked.specs.Computing.{computing}
 use Rattle.account.specs.Statement.{Start, plain_from, piped_from}
-use Rattle.account.specs.Decide.{untouched, untouched_sound, touches, clear, all}
+use Rattle.account.specs.Decide.{untouched, touches, clear, all}
+use Rattle.account.proofs.Decide.{untouched_sound}
 use Rattle.junk.specs.Statement.{looked, looks_at, reads_byte, Never, NoPart, NoPartAsIn01, DifferOnlyAt, imaged, SameStep, SameClock, BytesThatPlayNoPart}
 use Rattle.junk.specs.Decide.{never, no_part, differs, never_sound, part_sound, differs_sound}
 use Rattle.junk.specs.Theorem.{no_part_lem}

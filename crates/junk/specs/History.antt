@@ -16,7 +16,7 @@ use Rattle.machine.specs.Plain.{Plain, is_stopped, fetched, decoded, executed, a
 use Rattle.clocked.specs.Premise.{writes_byte, has_byte, Premise}
 use Rattle.published.specs.Fetching.{M₁}
 use Rattle.published.specs.Columns.{stays as step_still}
-use Rattle.account.specs.Sight.{runs_before}
+use Rattle.account.proofs.Sight.{runs_before}
 use Rattle.junk.specs.Statement.{looked, looks_at, reads_byte, NoPart}
 use Rattle.junk.specs.Bytes.{Alike, end_alike, inside_alike, blame_alike, store_alike, load_same, same_fetch, size_same, looked_alike}
 

@@ -17,11 +17,12 @@ use Rattle.clocked.specs.Premise.{has_byte, Premise}
 use Rattle.clock_laws.specs.Settings.{clocks_keep}
 use Rattle.published.specs.Fetching.{M₁}
 use Rattle.account.specs.Statement.{Start, plain_from, piped_from, DueBy, kept_of, Agrees}
-use Rattle.account.specs.Timing.{up_to}
-use Rattle.account.specs.Retirement.{clock_any}
-use Rattle.account.specs.Uses.{due_only, always}
-use Rattle.account.specs.Sight.{premise_seen, seen_on}
-use Rattle.account.specs.Midrun.{Landed, always_in_mid_run}
+use Rattle.account.proofs.Timing.{up_to}
+use Rattle.account.proofs.Retirement.{clock_any}
+use Rattle.account.proofs.Uses.{due_only, always}
+use Rattle.account.proofs.Sight.{premise_seen, seen_on}
+use Rattle.account.specs.Midrun.{Landed}
+use Rattle.account.proofs.Midrun.{always_in_mid_run}
 use Rattle.junk.specs.Statement.{looked, looks_at, reads_byte, NoPart, NoPartAsIn01, DifferOnlyAt, AtMost, imaged, SameStep, SameClock, BytesThatPlayNoPart}
 use Rattle.junk.specs.Bytes.{Alike, looked_within}
 use Rattle.junk.specs.History.{Beside, Covers, Twins, twins, stop_alike, premise_alike, no_part_alike}

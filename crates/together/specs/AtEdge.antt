@@ -14,11 +14,12 @@ use Rattle.clocked.specs.PipeRuns.{PipeAnswer, pipe_done, settings_refused}
 use Rattle.machine.specs.Runs.{window_refused}
 use Rattle.account.specs.Statement.{Start, plain_from, piped_from, DueBy, Agrees}
 use Rattle.account.specs.Seen.{Seen}
-use Rattle.account.specs.Sight.{seen_on}
-use Rattle.account.specs.Theorem.{demand3_seen}
-use Rattle.account.specs.Uses.{due_only, due_stopped, always}
-use Rattle.account.specs.Midrun.{Landed, in_mid_run}
-use Rattle.account.specs.TwoRuns.{unlogged_ran}
+use Rattle.account.proofs.Sight.{seen_on}
+use Rattle.account.proofs.Theorem.{demand3_seen}
+use Rattle.account.proofs.Uses.{due_only, due_stopped, always}
+use Rattle.account.specs.Midrun.{Landed}
+use Rattle.account.proofs.Midrun.{in_mid_run}
+use Rattle.account.proofs.TwoRuns.{unlogged_ran}
 use Rattle.block.specs.Block.{words_in, with_words, codes_from}
 use Rattle.replay_ends.specs.Ends.{edge_refusal, result_words}
 use Rattle.edge.specs.Edge.{Edge, edge, edge_done, edge_run, replayed_by, replayed}

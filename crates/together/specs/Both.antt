@@ -9,7 +9,8 @@ use Rattle.machine.specs.Runs.{start_refusal, plain_started, PlainAnswer, plain_
 use Rattle.clocked.specs.PipeRuns.{pipe_start_refusal, pipe_started, PipeAnswer, pipe_answer, pipe_run}
 use Rattle.answers.specs.Refusals.{ran}
 use Rattle.account.specs.Statement.{Start, plain_from, piped_from}
-use Rattle.account.specs.TwoRuns.{plain_answered, pipe_answered, Covered, RunsAgree, two_runs}
+use Rattle.account.specs.TwoRuns.{plain_answered, pipe_answered, Covered, RunsAgree}
+use Rattle.account.proofs.TwoRuns.{two_runs}
 
 abbrev pub start_of : Settings → Registers → Codes → ℕ → Memory → Start
 start_of s r c a m = record { settings = s; registers = r; codes = c; address = a; memory = m }

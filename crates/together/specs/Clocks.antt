@@ -14,9 +14,11 @@ use Rattle.answers.specs.Logs.{laid_none}
 use Rattle.answers.specs.Joined.{ones, ones_join}
 use Rattle.pipe.specs.Joined.{unlogged}
 use Rattle.account.specs.Statement.{Start, chosen, piped_from}
-use Rattle.account.specs.Timing.{up_to}
-use Rattle.account.specs.Contents.{Bytes, settings_known, shorter, each_clock}
-use Rattle.account.specs.TwoRuns.{plain_answered, pipe_unlogged, unlogged_ran, Covered, EndsAgree, unlogged_too}
+use Rattle.account.proofs.Timing.{up_to}
+use Rattle.account.specs.Contents.{Bytes}
+use Rattle.account.proofs.Contents.{settings_known, shorter, each_clock}
+use Rattle.account.specs.TwoRuns.{plain_answered, pipe_unlogged, Covered, EndsAgree}
+use Rattle.account.proofs.TwoRuns.{unlogged_ran, unlogged_too}
 
 -- the answer of the last of n clocks, each made from where the one before it ended
 unfoldable pub clock_by_clock : Pipeline → Memory → ℕ → PipeAnswer

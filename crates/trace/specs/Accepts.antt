@@ -9,8 +9,8 @@ use Rattle.clocked.specs.Charges.{due}
 use Rattle.clocked.specs.Pipeline.{clocks}
 use Rattle.clocked.specs.Premise.{Premise}
 use Rattle.account.specs.Statement.{Start, plain_from, piped_from, Agrees}
-use Rattle.account.specs.Theorem.{demand3}
-use Rattle.account.specs.Timing.{due_grows}
+use Rattle.account.proofs.Theorem.{demand3}
+use Rattle.account.proofs.Timing.{due_grows}
 use Rattle.trace.specs.Text.{plain_text, pipe_text}
 use Rattle.trace.specs.Honest.{same_lines}
 use Rattle.trace.specs.Verdict.{Verdict, accepted, trace_limit, verdict}

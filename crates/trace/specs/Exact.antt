@@ -14,8 +14,9 @@ use Rattle.machine.specs.Types.{is_set}
 use Rattle.machine.specs.Plain.{Plain, is_stopped, steps}
 use Rattle.clocked.specs.Prediction.{Core}
 use Rattle.clocked.specs.Premise.{Premise}
-use Rattle.account.specs.Decide.{clear, all, untouched, asked, decided}
-use Rattle.account.specs.Timing.{up_to}
+use Rattle.account.specs.Decide.{clear, all, untouched, asked}
+use Rattle.account.proofs.Decide.{decided}
+use Rattle.account.proofs.Timing.{up_to}
 use Rattle.text.specs.Decimal.{decimal_some}
 use Rattle.trace.specs.Line.{trace_line}
 use Rattle.trace.specs.Text.{plain_line, plain_text}

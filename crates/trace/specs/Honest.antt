@@ -18,9 +18,9 @@ use Rattle.clocked.specs.Charges.{due, retired_of}
 use Rattle.clocked.specs.Pipeline.{Piped, pipe_start, clock, clock_by, clocks, advanced, stopped_in, last_after, retired_after, kept_after}
 use Rattle.clocked.specs.Premise.{Premise}
 use Rattle.account.specs.Statement.{Start, plain_from, piped_from, Agrees, kept_of}
-use Rattle.account.specs.Theorem.{demand3}
-use Rattle.account.specs.Uses.{on_time as retires_on_time}
-use Rattle.account.specs.Sight.{premise_seen}
+use Rattle.account.proofs.Theorem.{demand3}
+use Rattle.account.proofs.Uses.{on_time as retires_on_time}
+use Rattle.account.proofs.Sight.{premise_seen}
 use Rattle.trace.specs.Line.{target_of, trace_line}
 use Rattle.trace.specs.Text.{plain_line, plain_text, line_in, line_now, pipe_text}
 

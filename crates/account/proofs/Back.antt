@@ -14,8 +14,8 @@ use Rattle.clocked.specs.Prediction.{Core}
 use Rattle.clocked.specs.Charges.{retired_of}
 use Rattle.clocked.specs.Pipeline.{Piped, after_e, after_m, handed, executing, decoded_d, waits, mispredicts, returns, ret_in_e, ret_in_m, bad_in_w, fails, patched_in_w, cancels}
 use Rattle.clocked.specs.Pipeline.{fetched_now, next_d, next_e, next_m, retired_after, kept_after, advanced, stopped_in, clock_by, clock}
-use Rattle.account.specs.Signals
-use Rattle.account.specs.Retirement.{clock_stops}
+use Rattle.account.proofs.Signals
+use Rattle.account.proofs.Retirement.{clock_stops}
 
 -- an access fails, or leaves the status that the instruction was fetched with
 pub access_status_lem : (x : Executed) (m : Memory) → ((access x m).status ≡ adr) ⊎ ((access x m).status ≡ x.instruction.status)

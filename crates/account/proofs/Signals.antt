@@ -14,7 +14,7 @@ use Rattle.clocked.specs.Prediction.{Core, predicted_next, mispredicted, meets, 
 use Rattle.clocked.specs.Pipeline.{Piped, after_e, after_m, handed_a, handed, executing, codes_after, memory_after, registers_after}
 use Rattle.clocked.specs.Pipeline.{past_result, past_both, source_w, source_m, source, waits_behind, waits, wrong, mispredicts, ret_in_d, ret_in_e, ret_in_m, returns, bad_in_w, fails}
 use Rattle.clocked.specs.Pipeline.{patched_in_w, cancels, restart, returned_to, mended, fetch_address, fetched_now, next_f, next_d, decoded_d, next_e, next_m, next_codes, advanced}
-use Rattle.account.specs.Laws.{or_true, wrong_at, patches_at}
+use Rattle.account.proofs.Laws.{or_true, wrong_at, patches_at}
 use Rattle.laws.specs.Tests.{neither}
 
 -- the instruction in D is one for which j has to wait

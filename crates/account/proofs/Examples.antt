@@ -11,7 +11,8 @@ use Rattle.clocked.specs.Charges.{due}
 use Rattle.clocked.specs.Pipeline.{Piped, clocks}
 use Rattle.clocked.specs.Computing.{computing}
 use Rattle.account.specs.Statement.{Start, plain_from, piped_from, Agrees, Demand3}
-use Rattle.account.specs.Decide.{UntouchedWithin, untouched, untouched_sound, touches, clear, all}
+use Rattle.account.specs.Decide.{UntouchedWithin, untouched, touches, clear, all}
+use Rattle.account.proofs.Decide.{untouched_sound}
 
 -- registers 0, codes ZF=1, start 0
 from : List ℕ → Start

@@ -9,8 +9,8 @@ use Rattle.clocked.specs.Prediction.{Core}
 use Rattle.clocked.specs.Charges.{amount, no_kinds, counted, reason_of, charge, charges, kinds_of, due}
 use Rattle.clocked.specs.Pipeline.{Piped}
 use Rattle.account.specs.Statement.{DueBy}
-use Rattle.account.specs.Relation.{Beyond, AtF, AtD, AtE, AtM, AtW, beyond_f, stop_f, ready_f, beyond_d, stop_d, empty_d, full_d}
-use Rattle.account.specs.Relation.{beyond_e, stop_e, empty_e, full_e, beyond_m, stop_m, empty_m, full_m, beyond_w, empty_w, full_w}
+use Rattle.account.proofs.Relation.{Beyond, AtF, AtD, AtE, AtM, AtW, beyond_f, stop_f, ready_f, beyond_d, stop_d, empty_d, full_d}
+use Rattle.account.proofs.Relation.{beyond_e, stop_e, empty_e, full_e, beyond_m, stop_m, empty_m, full_m, beyond_w, empty_w, full_w}
 
 -- THE ACCOUNT
 -- a property of the first n + 1, from that of the first n and of the next

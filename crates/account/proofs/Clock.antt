@@ -16,14 +16,14 @@ use Rattle.clocked.specs.Charges.{due}
 use Rattle.clocked.specs.Pipeline.{Piped, after_m, handed_a, executing, waits, mispredicts, fails, cancels, returns, ret_in_e, ret_in_m}
 use Rattle.clocked.specs.Pipeline.{fetch_address, fetched_now, source, source_m, source_w, past_both, advanced}
 use Rattle.clock_laws.specs.Registers.{value_after}
-use Rattle.account.specs.Laws
-use Rattle.account.specs.Laws.{bit, wrong_at, patches_at}
-use Rattle.account.specs.Signals
-use Rattle.account.specs.Signals.{waits_for, loads_into}
+use Rattle.account.proofs.Laws
+use Rattle.account.proofs.Laws.{bit, wrong_at, patches_at}
+use Rattle.account.proofs.Signals
+use Rattle.account.proofs.Signals.{waits_for, loads_into}
 use Rattle.account.specs.Seen.{wait}
-use Rattle.account.specs.Relation.{Sees, Known, Beyond, Guessed, AtF, BehindD, AtD, BehindE, AtE, BehindM, AtM, AtW, beyond_f, stop_f}
-use Rattle.account.specs.Relation.{ready_f, goes_d, wrong_d, ret_d, patch_d, beyond_d, stop_d, empty_d, full_d, goes_e, wrong_e, ret_e, patch_e, beyond_e}
-use Rattle.account.specs.Relation.{stop_e, empty_e, full_e, goes_m, ret_m, patch_m, beyond_m, stop_m, empty_m, full_m, beyond_w, empty_w, full_w}
+use Rattle.account.proofs.Relation.{Sees, Known, Beyond, Guessed, AtF, BehindD, AtD, BehindE, AtE, BehindM, AtM, AtW, beyond_f, stop_f}
+use Rattle.account.proofs.Relation.{ready_f, goes_d, wrong_d, ret_d, patch_d, beyond_d, stop_d, empty_d, full_d, goes_e, wrong_e, ret_e, patch_e, beyond_e}
+use Rattle.account.proofs.Relation.{stop_e, empty_e, full_e, goes_m, ret_m, patch_m, beyond_m, stop_m, empty_m, full_m, beyond_w, empty_w, full_w}
 
 data Fate (g : Core) (s : Plain) (K n : ℕ) : Type 0 where
   beyond : Beyond g s K n → Fate g s K n

@@ -16,17 +16,17 @@ use Rattle.clocked.specs.Pipeline.{Piped, pipe_start, waits, waits_behind, mende
 use Rattle.clocked.specs.Pipeline.{retired_after, kinds_after, kept_after, logged, advanced, stopped_in, clock, clocks}
 use Rattle.account.specs.Statement.{Start, plain_from, piped_from, DueBy, kept_of, Agrees, Demand3}
 use Rattle.account.specs.Seen.{wait, waiting, Seen, UntouchedAhead, Demand3Under}
-use Rattle.account.specs.Reach.{UntouchedStraight, straight_ahead}
-use Rattle.account.specs.Laws
-use Rattle.account.specs.Laws.{bit}
-use Rattle.account.specs.Signals.{waits_for}
-use Rattle.account.specs.Relation.{Known, Beyond, AtM, AtW, ready_f, empty_d, empty_e, beyond_m, stop_m, empty_m, full_m, beyond_w, empty_w, full_w}
-use Rattle.account.specs.Clock
-use Rattle.account.specs.Sight
-use Rattle.account.specs.Timing.{Older, older_later, older_next, exactly, exactly_stopped, due_order, late_w}
+use Rattle.account.proofs.Reach.{UntouchedStraight, straight_ahead}
+use Rattle.account.proofs.Laws
+use Rattle.account.proofs.Laws.{bit}
+use Rattle.account.proofs.Signals.{waits_for}
+use Rattle.account.proofs.Relation.{Known, Beyond, AtM, AtW, ready_f, empty_d, empty_e, beyond_m, stop_m, empty_m, full_m, beyond_w, empty_w, full_w}
+use Rattle.account.proofs.Clock
+use Rattle.account.proofs.Sight
+use Rattle.account.proofs.Timing.{Older, older_later, older_next, exactly, exactly_stopped, due_order, late_w}
 use Rattle.laws.specs.Status.{sound}
 use Rattle.clock_laws.specs.Stops.{clock_still}
-use Rattle.account.specs.Retirement.{Books, clock_bubble, clock_retires, clock_stops, books_retires, books_stops}
+use Rattle.account.proofs.Retirement.{Books, clock_bubble, clock_retires, clock_stops, books_retires, books_stops}
 
 module _ (g : Core) (s : Plain) (k : ℕ) where
   pub reason_kept : (n : ℕ) → reason_from g (kept_of s n) (fetched (steps s n)) ≡ reason_of g s (suc n)

@@ -8,8 +8,8 @@ use Rattle.machine.specs.Plain.{Plain, is_stopped, fetched, decoded, executed, a
 use Rattle.clocked.specs.Prediction.{Core}
 use Rattle.clocked.specs.Charges.{due}
 use Rattle.clocked.specs.Pipeline.{Piped, executing, waits, fetch_address}
-use Rattle.account.specs.Laws.{bit, wrong_at, patches_at}
-use Rattle.account.specs.Signals.{waits_for}
+use Rattle.account.proofs.Laws.{bit, wrong_at, patches_at}
+use Rattle.account.proofs.Signals.{waits_for}
 use Rattle.account.specs.Seen.{wait}
 
 -- of the first n instructions the first j are due by cycle d, and no other

@@ -16,13 +16,13 @@ use Rattle.clocked.specs.Charges.{no_kinds, amount, reason_behind, reason_from, 
 use Rattle.clocked.specs.Pipeline.{Piped, pipe_start, after_m, handed_a, executing, waits, mispredicts, fails, cancels, ret_in_e, ret_in_m, bad_in_w, fetched_now}
 use Rattle.clocked.specs.Pipeline.{source, retired_after, kinds_after, kept_after, advanced, stopped_in, clock, clocks}
 use Rattle.account.specs.Statement.{Start, piped_from}
-use Rattle.account.specs.Laws
-use Rattle.account.specs.Laws.{bit}
-use Rattle.account.specs.Signals
-use Rattle.account.specs.Signals.{waits_for}
-use Rattle.account.specs.Timing.{total, total_counted}
+use Rattle.account.proofs.Laws
+use Rattle.account.proofs.Laws.{bit}
+use Rattle.account.proofs.Signals
+use Rattle.account.proofs.Signals.{waits_for}
+use Rattle.account.proofs.Timing.{total, total_counted}
 use Rattle.clock_laws.specs.Stops.{clock_still}
-use Rattle.account.specs.Retirement.{Books, clock_bubble, clock_retires, clock_stops, books_retires, books_stops}
+use Rattle.account.proofs.Retirement.{Books, clock_bubble, clock_retires, clock_stops, books_retires, books_stops}
 
 -- as an executed instruction will retire that does not write into the window
 abbrev retiring : Executed → Retired

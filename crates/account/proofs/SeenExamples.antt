@@ -15,8 +15,9 @@ use Rattle.clocked.specs.Computing.{computing}
 use Rattle.account.specs.Statement.{Start, chosen, plain_from, piped_from, kept_of, Agrees}
 use Rattle.account.specs.Seen.{waiting, wait, fetch_cycle, due_among, seen, Seen, Demand3Under}
 use Rattle.account.specs.Decide.{touches, clear, all, untouched}
-use Rattle.account.specs.DecideSeen.{same, is_alike, well_fetched, all_alike, seen_decided}
-use Rattle.account.specs.Theorem.{demand3_seen}
+use Rattle.account.specs.DecideSeen.{same, is_alike, well_fetched, all_alike}
+use Rattle.account.proofs.DecideSeen.{seen_decided}
+use Rattle.account.proofs.Theorem.{demand3_seen}
 
 -- codes ZF=1, start 0, all registers 0 but %rsp
 pub from : Window → (rsp : ℕ) → List ℕ → Start

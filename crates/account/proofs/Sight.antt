@@ -23,11 +23,11 @@ use Rattle.machine.specs.Plain.{Plain, is_stopped, fetched, decoded, executed, a
 use Rattle.clocked.specs.Prediction.{Core}
 use Rattle.clocked.specs.Charges.{reason_of, charge, charges, due}
 use Rattle.clocked.specs.Premise.{Premise, writes_byte, has_byte}
-use Rattle.account.specs.Laws.{patches_at, store_succeeds, in_executed, step_memory, stopped_before, waiting_less}
-use Rattle.account.specs.Relation.{Known, Sees}
-use Rattle.account.specs.Timing.{up_to, due_order}
+use Rattle.account.proofs.Laws.{patches_at, store_succeeds, in_executed, step_memory, stopped_before, waiting_less}
+use Rattle.account.proofs.Relation.{Known, Sees}
+use Rattle.account.proofs.Timing.{up_to, due_order}
 use Rattle.account.specs.Seen.{wait, fetch_cycle, due_among, seen, FetchedAlike, Seen, FetchedBefore, UntouchedAhead}
-use Rattle.account.specs.Reach.{UntouchedStraight, straight_ahead}
+use Rattle.account.proofs.Reach.{UntouchedStraight, straight_ahead}
 
 -- WHAT A STORE LEAVES
 pub size_new_memory : (x : Executed) (m : Memory) → size (new_memory x m) ≡ size m

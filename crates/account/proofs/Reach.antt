@@ -9,9 +9,9 @@ use Rattle.clocked.specs.Prediction.{Core}
 use Rattle.clocked.specs.Charges.{charge, charges, reason_of, due}
 use Rattle.clocked.specs.Premise.{writes_byte, has_byte}
 use Rattle.account.specs.Seen.{wait, FetchedBefore, UntouchedAhead}
-use Rattle.account.specs.Laws.{wrong_at, patches_at, falsely, writes_right, due_next, charge_wrong, charge_returned, charge_patched, waiting_less, wait_none}
-use Rattle.account.specs.Relation.{Guessed}
-use Rattle.account.specs.Timing.{due_order}
+use Rattle.account.proofs.Laws.{wrong_at, patches_at, falsely, writes_right, due_next, charge_wrong, charge_returned, charge_patched, waiting_less, wait_none}
+use Rattle.account.proofs.Relation.{Guessed}
+use Rattle.account.proofs.Timing.{due_order}
 
 module _ (g : Core) (s : Plain) where
   -- what waits is charged
