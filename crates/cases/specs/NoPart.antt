@@ -18,8 +18,9 @@ use Rattle.edge.specs.Edge.{Edge, edge, edge_done, edge_run, replayed_by, replay
 use Rattle.report_lines.specs.Lines.{count_lines}
 use Rattle.report.specs.Report.{end_lines, report, image_refused, image_start, image_run, reported}
 use Rattle.junk.specs.Statement.{DifferOnlyAt, AtMost, NoPart, SameRecord}
-use Rattle.junk.specs.Theorem.{no_part_lem}
-use Rattle.junk.specs.Answers.{SamePipeAnswer, runs_same}
+use Rattle.junk.proofs.Theorem.{no_part_lem}
+use Rattle.junk.specs.Answers.{SamePipeAnswer}
+use Rattle.junk.proofs.Answers.{runs_same}
 
 -- two answers of the host edge: answer, registers and result block are the same, and memory differs at most where the images do
 pub record SameEdge (m m' : List ℕ) (x x' : Edge) : Type 0 where

@@ -1,9 +1,5 @@
--- Bytes that play no part (02, #112). To be read: Statement. The proof: the Bytes of fetch, load and store, the plain History, the Theorem. What it says
--- of the answers of the runs: Answers. Of its hypothesis: Decide. That it is tight: Examples.
+-- Bytes that play no part (02, #112). To be read: Statement; for the answers of the runs Answers; the test of its hypothesis, Decide. The theorems are in
+-- proofs/.
 pub mod Statement
-pub mod Bytes
-pub mod History
-pub mod Theorem
 pub mod Answers
 pub mod Decide
-pub mod Examples

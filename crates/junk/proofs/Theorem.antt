@@ -24,8 +24,8 @@ use Rattle.account.proofs.Sight.{premise_seen, seen_on}
 use Rattle.account.specs.Midrun.{Landed}
 use Rattle.account.proofs.Midrun.{always_in_mid_run}
 use Rattle.junk.specs.Statement.{looked, looks_at, reads_byte, NoPart, NoPartAsIn01, DifferOnlyAt, AtMost, imaged, SameStep, SameClock, BytesThatPlayNoPart}
-use Rattle.junk.specs.Bytes.{Alike, looked_within}
-use Rattle.junk.specs.History.{Beside, Covers, Twins, twins, stop_alike, premise_alike, no_part_alike}
+use Rattle.junk.proofs.Bytes.{Alike, looked_within}
+use Rattle.junk.proofs.History.{Beside, Covers, Twins, twins, stop_alike, premise_alike, no_part_alike}
 
 -- the images are the same at x
 abbrev Same : Memory → Memory → ℕ → Type 0

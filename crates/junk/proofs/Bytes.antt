@@ -1,10 +1,10 @@
 -- Fetch, load and store on two memories: the first two look only at the bytes that they are said to look at, and a store makes no byte differ.
-use Rattle.std.specs.Prelude.{ℕ, zero, suc, ◌+◌, ◌-◌, ◌≤◌, ◌<◌, ◌/◌, ◌%◌, Bool, ◌&&◌, ◌||◌, List, ◌≡◌, T, eqb, length, get_or, set}
+use Rattle.std.specs.Prelude.{ℕ, zero, suc, ◌+◌, ◌-◌, ◌≤◌, ◌<◌, ◌/◌, ◌%◌, Bool, ◌||◌, List, ◌≡◌, T, eqb, length, get_or, set}
 use Rattle.std.proofs.Math.Bool.{true, false, cond}
 use Rattle.std.proofs.Math.Path.{refl, ap, sym}
 use Rattle.std.proofs.Common.{◌∙◌, arith, length-set, get_or-set_same, get_or-set_other}
 use Rattle.std.proofs.Math.Decide.{dec_lt, ℕ_discrete}
-use borrow.Author.Tests.{ltb-true, ltb-false, leb-true, leb-false}
+use borrow.Author.Tests.{ltb-false, leb-false}
 use Rattle.std.proofs.Math.Dec.{ltb, leb, ltb→lt}
 use Rattle.std.proofs.Math.ListN.{get_or-eq_default}
 use Rattle.machine.specs.declared.Executed.{Executed}
@@ -13,8 +13,8 @@ use Rattle.machine.specs.declared.Fault.{Fault}
 use Rattle.machine.specs.declared.Fault.TheVariants.{NoFault as no_fault, FirstMissing as first_missing, NoCode as no_code, NoFunction as no_function}
 use Rattle.machine.specs.declared.Fault.TheVariants.{LaterMissing as later_missing, NoRegister as no_register}
 use Rattle.laws.specs.Memory.{length_placed}
-use Rattle.machine.specs.Words.{sum, number, placed}
-use Rattle.machine.specs.Memory.{Memory, holding, size, seen_to, code_end, inside, load, store}
+use Rattle.machine.specs.Words.{number, placed}
+use Rattle.machine.specs.Memory.{Memory, holding, size, code_end, inside, load, store}
 use Rattle.machine.specs.Table.{Row, row_of, RegisterByte, no_byte, both_named, only_b, only_a}
 use Rattle.machine.specs.Fetch.{fetch, size_at, checked, half, names_a, names_b, misnamed, fault_at, blame_of}
 use Rattle.machine.specs.Stages.{stores, access_address, stored_word, new_memory}
@@ -143,6 +143,7 @@ misnamed_same only_a b b' e = ap (λ (z : ℕ). misnamed only_a (z / 16) (z % 16
 
 there_a : (a b : Bool) → T a → T (a || b)
 there_a true b t = tt
+there_a false b t = elim t [ ]
 
 there_b : (a b : Bool) → T b → T (a || b)
 there_b true b t = tt

@@ -1,6 +1,6 @@
 -- The plain engine on two images that differ only where nothing is looked at: the same instructions, registers, codes, status and log.
 use Prim.Native.Nat.{ℕ, zero, suc, ◌+◌, ◌-◌, ◌≤◌, ◌<◌}
-use Rattle.std.specs.Prelude.{Bool, not, ◌&&◌, ◌≡◌, ltb, leb}
+use Rattle.std.specs.Prelude.{Bool, ◌&&◌, ◌≡◌, ltb, leb}
 use Rattle.std.proofs.Math.Bool.{true, false, cond}
 use Rattle.std.proofs.Math.Path.{refl, ap, sym, subst}
 use Rattle.std.proofs.Common.{◌∙◌, arith}
@@ -18,7 +18,7 @@ use Rattle.published.specs.Fetching.{M₁}
 use Rattle.published.specs.Columns.{stays as step_still}
 use Rattle.account.proofs.Sight.{runs_before}
 use Rattle.junk.specs.Statement.{looked, looks_at, reads_byte, NoPart}
-use Rattle.junk.specs.Bytes.{Alike, end_alike, inside_alike, blame_alike, store_alike, load_same, same_fetch, size_same, looked_alike}
+use Rattle.junk.proofs.Bytes.{Alike, end_alike, inside_alike, blame_alike, store_alike, load_same, same_fetch, size_same, looked_alike}
 
 -- an access is the same where the word that it loads is
 module _ (E : ℕ → Type 0) (x : Executed) (u u' : Memory) (h : Alike E u u') where

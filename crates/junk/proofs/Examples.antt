@@ -8,7 +8,7 @@ use Rattle.machine.specs.declared.Window.{Window}
 use Rattle.machine.specs.declared.Window.TheVariants.{NoWindow as no_window, Within as within}
 use Rattle.clocked.specs.declared.StageD.{StageD}
 use Rattle.clocked.specs.declared.StageD.TheVariants.{BubbleD as bubble_d, InD as in_d}
-use Rattle.machine.specs.Types.{status_number, is_set}
+use Rattle.machine.specs.Types.{status_number}
 use Rattle.machine.specs.Memory.{Memory, lent, Registers}
 use Rattle.machine.specs.Plain.{Plain, is_stopped, steps}
 use Rattle.clocked.specs.Prediction.{Core, core01}
@@ -19,8 +19,9 @@ use Rattle.account.specs.Statement.{Start, plain_from, piped_from}
 use Rattle.account.specs.Decide.{untouched, touches, clear, all}
 use Rattle.account.proofs.Decide.{untouched_sound}
 use Rattle.junk.specs.Statement.{looked, looks_at, reads_byte, Never, NoPart, NoPartAsIn01, DifferOnlyAt, imaged, SameStep, SameClock, BytesThatPlayNoPart}
-use Rattle.junk.specs.Decide.{never, no_part, differs, never_sound, part_sound, differs_sound}
-use Rattle.junk.specs.Theorem.{no_part_lem}
+use Rattle.junk.specs.Decide.{never, no_part, differs}
+use Rattle.junk.proofs.Decide.{never_sound, part_sound, differs_sound}
+use Rattle.junk.proofs.Theorem.{no_part_lem}
 
 -- a start in this window: codes ZF=1, start 0; rax as given, the other registers 0
 pub seen_in : Window → ℕ → List ℕ → Start
