@@ -45,25 +45,44 @@ quietly() {
 # proving COMMAND...: rt's verdicts as they come, each crate and each edit counted; what led to one that is bad is shown before it
 proving() {
     "$@" 2>&1 | tee -a "$log" | awk -v crates="$(grep -vc '^#' crates.txt)" -v edits="$(find crates -name '*.edit' | wc -l)" '
-        function led(    k) { for (k = 1; k <= said && k <= 60; k++) print line[k] }
+        function led(    k) { for (k = 1; k <= said && k <= 60; k++) print line[k]; said = 0 }
+        function passed(what) { printf "  %2d of %d  %-14s %s\n", ++proved, crates, $2, what; said = 0; fflush() }
         /^rt: / { more = 0 }
-        /^rt: [A-Za-z0-9_]+ proved \(/ {
-            printf "  %2d of %d  %-10s %s\n", ++proved, crates, $2, /unchanged/ ? "unchanged" : "proved in " substr($4, 2) " s"
-            said = 0; fflush(); next
-        }
-        /^rt: must-fail .*: refused, as it must be/ { printf "  edit %2d of %d  %s\n", ++refused, edits, substr($0, 15); said = 0; fflush(); next }
-        /^rt: ok|^rt: [A-Za-z0-9_]+ ran/ { print "  " substr($0, 5); said = 0; fflush(); next }
-        /^rt: / { led(); print; said = 0; more = /BAD EDIT/; fflush(); next }
+        /^== / { said = 0; next }
+        /^rt: [a-z0-9_]+ proved/ { passed("proved"); next }
+        /^rt: [a-z0-9_]+ is kept/ { passed("proved by an earlier run"); next }
+        /^rt: must-fail .*: refused, as it must be/ { printf "  edit %3d of %d  %s\n", ++refused, edits, substr($0, 15); said = 0; fflush(); next }
+        /^rt: (ok|[a-z0-9_]+ ran|[a-z0-9_]+: trying)/ { print "  " substr($0, 5); said = 0; fflush(); next }
+        /^rt: / { led(); print; more = /BAD EDIT/; fflush(); next }
         more { print; next }
-        /: proved$|^(library|logic|crate) |^logic=|^[0-9]+ passed, [0-9]+ failed$/ { next }
+        /: proved$|^(library|logic|crate|statements|checked) |^logic=|^empty contracts|^[0-9]+ passed, [0-9]+ failed/ { next }
         { line[++said] = $0 }
         END { led() }'
 }
 
-# archive NAME: target/staticlib/libNAME.a of the crate as it stands, made again only where the crate or the archive is another
+# checking: rt all check, crate by crate; what it says of one that does not prove is shown at the end
+checking() {
+    local status=0
+    rt all check 2>&1 | tee -a "$log" | awk -v crates="$(grep -vc '^#' crates.txt)" '
+        /^== / && $2 != "summary" { printf "  %2d of %d  %s\n", ++seen, crates, $2; fflush() }' || status=$?
+    [ "$status" -eq 0 ] || grep -E 'error|no proof|not proved|NOT PROVED' "$log" | tail -n 40
+    return "$status"
+}
+
+# archive NAME CRATE: target/staticlib/libNAME.a of a static library as it stands, made again only where the crate is another
 archive() {
-    local archive=target/staticlib/lib$1.a made=target/$1.made
-    quietly rt check "$1" || return
-    if [ -f "$archive" ] && cat "target/stamp/$1" <(sha256sum "$archive") | cmp -s - "$made"; then return; fi
-    quietly rt staticlib "$1" && cat "target/stamp/$1" <(sha256sum "$archive") >"$made"
+    mkdir -p target/staticlib
+    (cd "crates/$2" && rt lib) >>"$log" 2>&1 || { tail -n 40 "$log"; return 1; }
+    cp -p "crates/$2/out/lib$2.a" "target/staticlib/lib$1.a"
+}
+
+# program NAME: target/bin/NAME; a run without input is how rt builds one
+program() {
+    mkdir -p target/bin
+    (cd "crates/$1" && rt run </dev/null) >>"$log" 2>&1 || { tail -n 40 "$log"; return 1; }
+    cp -p "crates/$1/out/$1" "target/bin/$1"
+}
+
+programs() {
+    program y86run && program y86peaks
 }

@@ -1,6 +1,7 @@
-//! Links the proved host edge, which `rt staticlib edge` builds. The archive
-//! of `rt staticlib trial` lies in the same folder: only one test links it, and
-//! is told here whether it is there.
+//! Links the proved host edge, the static library of the crate `edge_c`, which
+//! `bin/build` puts into target/staticlib. The archive of the crate `trial` lies
+//! in the same folder: only one test links it, and is told here whether it is
+//! there.
 
 use std::path::Path;
 
@@ -23,7 +24,7 @@ fn main() {
         println!(
             "cargo::error=the proved host edge is not built: \
              target/staticlib/libedge.a is missing. \
-             Run `rt staticlib edge` at the root of the repository, or `bin/build`, which does all"
+             Run `bin/build` at the root of the repository, which makes it"
         );
         return;
     }
