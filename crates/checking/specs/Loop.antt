@@ -25,7 +25,7 @@ use Rattle.account.proofs.Timing.{due_most}
 use Rattle.trace.specs.Text.{plain_line}
 use Rattle.trace.specs.declared.Verdict.{Verdict}
 use Rattle.trace.specs.Verdict.{accepted, wrong_by, written_into, begins, judged, trace_limit, verdict}
-use Rattle.trace.specs.Exact.{begins_only, line_some}
+use Rattle.trace.proofs.Exact.{begins_only, line_some}
 use Rattle.checking.specs.declared.Checking.{Checking}
 use Rattle.checking.specs.Stores.{no_store, store_before, stores_before, written_by}
 use Rattle.checking.specs.State.{held, charged_next, line_due, Open, faulty, passed_on, Checked, no_line, written, differs, right}

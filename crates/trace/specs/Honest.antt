@@ -1,8 +1,8 @@
 -- What an honest pipelined run writes within the premise are the first lines of the plain history.
-use Prim.Native.Nat.{ℕ, zero, suc, ◌+◌, ◌-◌, ◌≤◌, ◌<◌}
+use Prim.Native.Nat.{ℕ, zero, suc, ◌+◌, ◌-◌, ◌≤◌}
 use Rattle.std.specs.Prelude.{Bool, cond, ◌≡◌, length}
 use Rattle.std.proofs.Math.Bool.{true, false}
-use Rattle.std.proofs.Common.{true≢false, ◌∙◌, arith, add-one}
+use Rattle.std.proofs.Common.{true≢false, ◌∙◌, arith}
 use mathlib.Core.List.{List, [], ◌++◌, append-nil, append_assoc}
 use Rattle.std.proofs.Math.Path.{refl, ap, sym, subst}
 use Rattle.machine.specs.declared.Accessed.{Accessed}
@@ -11,7 +11,6 @@ use Rattle.clocked.specs.declared.StageW.TheVariants.{BubbleW as bubble_w, InW a
 use Rattle.clocked.specs.declared.Retired.{Retired}
 use Rattle.clocked.specs.declared.Kept.TheVariants.{LastKept as last_kept}
 use Rattle.machine.specs.Types.{is_bad, is_set}
-use Rattle.machine.specs.Memory.{value}
 use Rattle.machine.specs.Plain.{Plain, plain_start, is_stopped, accessed, performed, stopped_by, step, steps}
 use Rattle.clocked.specs.Prediction.{Core}
 use Rattle.clocked.specs.Charges.{due, retired_of}
@@ -21,7 +20,7 @@ use Rattle.account.specs.Statement.{Start, plain_from, piped_from, Agrees, kept_
 use Rattle.account.proofs.Theorem.{demand3}
 use Rattle.account.proofs.Uses.{on_time as retires_on_time}
 use Rattle.account.proofs.Sight.{premise_seen}
-use Rattle.trace.specs.Line.{target_of, trace_line}
+use Rattle.trace.specs.Line.{target_of}
 use Rattle.trace.specs.Text.{plain_line, plain_text, line_in, line_now, pipe_text}
 
 -- A STEP OF A RUNNING MACHINE

@@ -1,4 +1,4 @@
-// A station's trace: its lines, and what a checker of one answers: definitions and theorems in specs/.
+// A station's trace: its lines, and what a checker of one answers: definitions in specs/, theorems in specs/ and proofs/.
 
 #![tactic(auto)]
 

@@ -1,6 +1,6 @@
 -- Every trace of at most 65,536 lines that an honest pipelined run writes within the premise is accepted.
-use Rattle.std.specs.Prelude.{ℕ, zero, suc, ◌+◌, ◌-◌, ◌≤◌, ◌<◌, true, false, ◌≡◌, length}
-use Rattle.std.proofs.Common.{true≢false, ap, sym, ◌∙◌, subst, arith}
+use Rattle.std.specs.Prelude.{ℕ, suc, ◌≤◌, ◌<◌, true, ◌≡◌, length}
+use Rattle.std.proofs.Common.{true≢false, sym, ◌∙◌, subst, arith}
 use Rattle.std.proofs.Math.Decide.{dec_lt}
 use Rattle.machine.specs.Types.{is_set}
 use Rattle.machine.specs.Plain.{plain_start}
@@ -11,10 +11,11 @@ use Rattle.clocked.specs.Premise.{Premise}
 use Rattle.account.specs.Statement.{Start, plain_from, piped_from, Agrees}
 use Rattle.account.proofs.Theorem.{demand3}
 use Rattle.account.proofs.Timing.{due_grows}
-use Rattle.trace.specs.Text.{plain_text, pipe_text}
+use Rattle.trace.specs.Text.{pipe_text}
 use Rattle.trace.specs.Honest.{same_lines}
-use Rattle.trace.specs.Verdict.{Verdict, accepted, trace_limit, verdict}
-use Rattle.trace.specs.Exact.{Within, Right, all_right, only}
+use Rattle.trace.specs.Verdict.{accepted, trace_limit, verdict}
+use Rattle.trace.specs.Exact.{Within, all_right}
+use Rattle.trace.proofs.Exact.{only}
 
 module _ (g : Core) (t : Start) (l : length t.registers ≡ 15) where
   -- with the premise up to instruction k + 1, after any clock up to its due cycle

@@ -1,7 +1,6 @@
 -- Traces and their verdicts, computed of the definitions: targets, charges, both kinds, the stop, and a window.
-use Rattle.std.specs.Prelude.{ℕ, true, false, List, [], ◌∷◌, ◌++◌, ◌≡◌, refl, replicate, length, drop}
+use Rattle.std.specs.Prelude.{ℕ, true, false, List, [], ◌∷◌, ◌++◌, ◌≡◌, refl, replicate}
 use Prim.Native.String.{String}
-use Rattle.clocked.specs.declared.Settings.{Settings}
 use Rattle.machine.specs.declared.Window.{Window}
 use Rattle.machine.specs.declared.Window.TheVariants.{NoWindow as no_window, Within as within}
 use Rattle.machine.specs.Memory.{lent}
@@ -15,7 +14,7 @@ use Rattle.report_lines.specs.Lines.{line}
 use Rattle.register_lines.specs.Registers.{register_names, register_name}
 use Rattle.trace.specs.Line.{target_of, target_text, trace_line}
 use Rattle.trace.specs.Text.{plain_line, line_in, line_now, pipe_text}
-use Rattle.trace.specs.Verdict.{Verdict, written_into, begins, judged, verdict}
+use Rattle.trace.specs.Verdict.{written_into, begins, judged, verdict}
 
 -- registers 0, codes ZF=1, start 0, rule 0, store data not late
 from : Window → List ℕ → Start
