@@ -1,14 +1,14 @@
 -- Hex put piece by piece: one law for each way out of a function. Assumes nothing.
-use mathlib.Core.Path.{◌≡◌, refl, ap, sym, ◌∙◌, subst}
+use mathlib.Core.Path.{◌≡◌, refl, ap, subst}
 use mathlib.Core.List.{List, [], ◌∷◌, ◌++◌}
-use Prim.Native.Nat.{ℕ, zero, suc, ◌+◌, ◌-◌, ◌*◌, ◌/◌, ◌%◌, ◌≤◌, ◌<◌}
+use Prim.Native.Nat.{ℕ, zero, suc, ◌+◌, ◌-◌, ◌/◌, ◌%◌, ◌≤◌, ◌<◌}
 use native.Mathlib.Omega.{arith}
 use native.Mathlib.Numerals.{add-one}
 use lib.ListN.{length, take, get_or}
 use lib.Seq.{take-suc, take_all}
 use borrow.Author.Tests.{lt-ltb, le-ltb}
 use Rattle.text.specs.Put.{Put, put_both, put_nothing}
-use Rattle.writing.specs.HexText.{hex_digit, hex_digits, hex_text, hex_pairs}
+use Rattle.writing.specs.HexText.{hex_digit, hex_digits, hex_pairs}
 
 module _ {a b : List ℕ} {at r : ℕ} where
   pub low_digit : (d : ℕ) → d < 10 → Put ((48 + d) ∷ []) at a r b → Put (hex_digit d ∷ []) at a r b

@@ -1,15 +1,15 @@
 -- A line put piece by piece. Assumes nothing.
-use mathlib.Core.Path.{◌≡◌, refl, ap, subst}
-use mathlib.Core.Bool.{Bool, true, false, cond}
+use mathlib.Core.Path.{◌≡◌, subst}
+use mathlib.Core.Bool.{Bool, true, false}
 use mathlib.Core.List.{List, [], ◌∷◌, ◌++◌}
-use Prim.Native.Nat.{ℕ, ◌+◌, ◌-◌, ◌*◌, ◌≤◌, ◌<◌}
+use Prim.Native.Nat.{ℕ, ◌+◌, ◌-◌, ◌≤◌}
 use native.Mathlib.Omega.{arith}
 use lib.ListN.{length, take, drop, length-take}
 use Rattle.machine.specs.declared.Instruction.{Instruction}
 use Rattle.machine.specs.declared.Status.TheVariants.{Aok as aok}
 use Rattle.machine.specs.Memory.{Memory}
 use Rattle.published.specs.Fetching.{aok_at}
-use Rattle.listing.specs.Grammar.{Remark, none, some, remarked, line}
+use Rattle.listing.specs.Grammar.{Remark, remarked, line}
 use Rattle.text.specs.Parts.{tab, line_feed}
 use Rattle.text.specs.Put.{Put, put_both, put_nothing}
 use Rattle.writing.specs.HexText.{hex_text, hex_pairs}

@@ -3,13 +3,12 @@ use Prim.Native.Nat.{ℕ, zero, suc, ◌+◌, ◌-◌, ◌*◌, ◌/◌, ◌%◌
 use Prim.Native.String.{String}
 use Rattle.std.specs.Prelude.{◌≡◌, Bool, cond, not, ◌&&◌, ◌||◌, T, leb, ltb, eqb, length, get_or, take, drop, replicate}
 use Rattle.std.proofs.Math.Path.{refl, ap}
-use Rattle.std.proofs.Common.{sym, ◌∙◌, subst, div-add-mod', mod-lt, pow-suc, ltb→lt, length-append, length-take, length-drop, take_at, drop_at, length-take-le, take-add, drop-drop, get_or-take, get_or-drop, le-leb, lt-ltb, le-ltb, ltb-true, ltb-false, leb-true, ne_eqb}
+use Rattle.std.proofs.Common.{sym, ◌∙◌, subst, div-add-mod', mod-lt, pow-suc, ltb→lt, length-append, length-take, length-drop, take_at, drop_at, length-take-le, take-add, drop-drop, get_or-take, get_or-drop, le-leb, ltb-true, ltb-false, leb-true, ne_eqb}
 use Rattle.std.proofs.Math.Bool.{true, false}
 use mathlib.Core.List.{List, [], ◌∷◌, ◌++◌, append_assoc}
 use native.Mathlib.Omega.{arith}
 use Rattle.std.proofs.lemmas.List.{length-replicate}
 use Rattle.std.proofs.lemmas.List.Edits.{sets, sets-eq}
-use Rattle.std.proofs.Math.Seq.{take-nil, drop-nil}
 use Rattle.std.proofs.lemmas.Bool.{lt-leb}
 use Rattle.machine.specs.Memory.{Memory, size}
 use Rattle.machine.specs.Table.{row_of, table}
@@ -17,7 +16,7 @@ use Rattle.machine.specs.Fetch.{size_at, fetch}
 use Rattle.published.specs.Lengths.{every_row}
 use Rattle.text.specs.Parts.{Text, has, line_feed, lines}
 use Rattle.text.specs.Hex.{is_hex, hex_value, all_hex, hex_from, hex_number, hex_bytes}
-use Rattle.listing.specs.Grammar.{Remark, none, some, Record, remarked, written, address_of, bytes_of, end_of, laid, image_of, WellFormed, Listing, end, more}
+use Rattle.listing.specs.Grammar.{none, some, Record, remarked, address_of, bytes_of, end_of, laid, image_of, WellFormed, Listing, end, more}
 use Rattle.listing.specs.Reading.{records}
 use Rattle.listing.specs.Accepted.{Accepted, written_accepted}
 use Rattle.machine.specs.declared.Instruction.{Instruction}

@@ -1,6 +1,6 @@
 -- One law for each way out of a function. Assumes nothing.
 use mathlib.Core.Path.{◌≡◌, refl, ap, sym, ◌∙◌}
-use mathlib.Core.Bool.{Bool, true, false, cond, not, ◌||◌}
+use mathlib.Core.Bool.{Bool, true, false, not}
 use mathlib.Core.List.{List, [], ◌∷◌, ◌++◌}
 use Prim.Native.Nat.{ℕ, ◌≤◌, ◌<◌}
 use native.Mathlib.Omega.{arith}
@@ -15,7 +15,7 @@ use Rattle.text.specs.Put.{Put, put_front}
 use Rattle.block.specs.Block.{with_words}
 use Rattle.encoding.specs.Encode.{Fields, encode_refused, form}
 use Rattle.writing.specs.Text.{listing_of}
-use Rattle.writing_edge.specs.Writings.{Written, written, fitted, encode_refusal, encoded, range_refused, list_refusal, listing_written}
+use Rattle.writing_edge.specs.Writings.{written, fitted, encode_refusal, encoded, range_refused, list_refusal, listing_written}
 
 -- WHAT IS WRITTEN, or only told how long it is
 module _ (t b l l' : List ℕ) (n : ℕ) (long : n ≡ length t) (told : l' ≡ with_words (n ∷ []) l 0) where

@@ -1,0 +1,5 @@
+-- The digits of the sixteenth stand in front, and the last digit behind them. The measure is how many sixteenths are left.
+use Rattle.writing.proofs.hexes.+put_digits.Given as goal
+
+abbrev pub decreases-put_digits : goal.decreases-put_digits
+decreases-put_digits l = l.left
