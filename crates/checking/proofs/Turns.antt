@@ -1,15 +1,14 @@
 -- The loop over the lines, turn by turn. Assumes nothing.
-use mathlib.Core.Path.{◌≡◌, refl, ap, sym, ◌∙◌, subst}
+use mathlib.Core.Path.{◌≡◌, refl, ap, ◌∙◌, subst}
 use mathlib.Core.Bool.{false}
 use mathlib.Core.List.{List}
 use Prim.Native.Nat.{ℕ, ◌+◌, ◌-◌, ◌≤◌, ◌<◌}
 use native.Mathlib.Omega.{arith}
 use lib.ListN.{length}
 use Rattle.machine.specs.declared.Machine.{Machine}
-use Rattle.machine.specs.Memory.{Memory, lent}
+use Rattle.machine.specs.Memory.{lent}
 use Rattle.machine.specs.Runs.{size_refused, window_refused}
 use Rattle.clocked.specs.Prediction.{Core}
-use Rattle.trace.specs.declared.Verdict.{Verdict}
 use Rattle.trace.specs.Verdict.{accepted}
 use Rattle.checking.specs.declared.Checking.{Checking}
 use Rattle.checking.specs.State.{Open, Checked}

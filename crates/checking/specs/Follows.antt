@@ -1,18 +1,15 @@
 -- What the checker holds follows the plain history: it judges each line as the definition does.
-use Prim.Native.Nat.{ℕ, zero, suc, ◌+◌, ◌-◌, ◌*◌, ◌≤◌, ◌<◌}
-use Rattle.std.specs.Prelude.{Bool, cond, ◌&&◌, ◌||◌, ◌≡◌, ltb, leb, eqb, length, drop}
+use Prim.Native.Nat.{ℕ, zero, suc, ◌+◌, ◌-◌}
+use Rattle.std.specs.Prelude.{Bool, cond, ◌&&◌, ◌||◌, ◌≡◌, leb}
 use Rattle.std.proofs.Math.Bool.{true, false, not}
-use Rattle.std.proofs.Common.{true≢false, ◌∙◌, subst, arith, le-leb, leb-true, leb-false}
-use mathlib.Core.List.{List, [], ◌∷◌}
+use Rattle.std.proofs.Common.{true≢false, ◌∙◌, arith, le-leb, leb-true, leb-false}
+use mathlib.Core.List.{List}
 use Rattle.std.proofs.Math.Path.{refl, ap, sym}
 use Rattle.std.proofs.lemmas.Bool.{lt-leb}
-use Rattle.machine.specs.declared.Accessed.{Accessed}
 use Rattle.machine.specs.declared.Executed.{Executed}
-use Rattle.machine.specs.declared.Instruction.{Instruction}
 use Rattle.machine.specs.declared.Machine.{Machine}
 use Rattle.machine.specs.declared.Window.{Window}
 use Rattle.machine.specs.declared.Window.TheVariants.{NoWindow as no_window, Within as within}
-use Rattle.clocked.specs.declared.Kept.{Kept}
 use Rattle.machine.specs.Types.{is_bad, is_set}
 use Rattle.machine.specs.Memory.{Memory, through, size, inside, seen_to, code_end, value}
 use Rattle.machine.specs.Table.{row_of, Accesses, no_access, loads_at_e, loads_at_a, stores_a, stores_next}
@@ -20,15 +17,14 @@ use Rattle.machine.specs.Fetch.{size_at}
 use Rattle.machine.specs.Stages.{storing, stores, addressed, access_address, decode, execute, access, new_registers}
 use Rattle.machine.specs.Plain.{Plain, plain_of, is_stopped, fetched, decoded, executed, accessed, performed, stopped_by, step, steps}
 use Rattle.clocked.specs.Prediction.{Core}
-use Rattle.clocked.specs.Charges.{amount, reason_from, reason_of, charge, charges, due, retired_of}
+use Rattle.clocked.specs.Charges.{reason_from, reason_of, charge, charges, due}
 use Rattle.laws.specs.Window.{steps_keep}
-use Rattle.plain.specs.Steps.{bare, behind, seen, step_bare}
+use Rattle.plain.specs.Steps.{bare, seen, step_bare}
 use Rattle.account.specs.Statement.{kept_of}
 use Rattle.account.specs.Decide.{touches, clear, all}
-use Rattle.trace.specs.Line.{target_of, trace_line}
+use Rattle.trace.specs.Line.{target_of}
 use Rattle.trace.specs.Text.{plain_line}
 use Rattle.trace.specs.Verdict.{written_into}
-use Rattle.checking.specs.declared.stores.Store.{Store}
 use Rattle.checking.specs.declared.stores.Stores.{Stores}
 use Rattle.checking.specs.declared.Checking.{Checking}
 use Rattle.checking.specs.Stores.{store_by, store_of, no_store, store_before, stores_before, hits, touched_by, written_by}

@@ -1,8 +1,8 @@
 -- A check, line by line: what holds before each line, and what the verdict is where it ends.
 use Prim.Native.Nat.{ℕ, zero, suc, ◌+◌, ◌-◌, ◌*◌, ◌≤◌, ◌<◌}
-use Rattle.std.specs.Prelude.{Bool, cond, not, ◌&&◌, ◌||◌, List, [], ◌++◌, ◌≡◌, eqb, ltb, length, drop}
+use Rattle.std.specs.Prelude.{Bool, ◌||◌, List, ◌≡◌, eqb, ltb, length, drop}
 use Rattle.std.proofs.Math.Bool.{true, false}
-use Rattle.std.proofs.Common.{true≢false, sym, ◌∙◌, subst, length-drop, length-append, drop_of_length-le, drop-drop}
+use Rattle.std.proofs.Common.{sym, ◌∙◌, subst, length-drop, length-append, drop-drop}
 use Rattle.std.proofs.Math.Path.{refl, ap}
 use native.Mathlib.Omega.{arith}
 use borrow.Author.Tests.{ltb-false, eq-eqb, ne_eqb, leb-true, leb-false}
@@ -13,7 +13,7 @@ use Rattle.machine.specs.declared.Machine.{Machine}
 use Rattle.machine.specs.declared.Window.TheVariants.{NoWindow as no_window}
 use Rattle.machine.specs.Types.{is_bad}
 use Rattle.machine.specs.Memory.{Memory, through}
-use Rattle.machine.specs.Plain.{Plain, plain_of, is_stopped, executed, accessed, step, steps}
+use Rattle.machine.specs.Plain.{Plain, plain_of, is_stopped, steps}
 use Rattle.machine.specs.Runs.{size_refused, window_refused}
 use Rattle.clocked.specs.Prediction.{Core}
 use Rattle.clocked.specs.Charges.{charges, due}
@@ -27,8 +27,8 @@ use Rattle.trace.specs.declared.Verdict.{Verdict}
 use Rattle.trace.specs.Verdict.{accepted, wrong_by, written_into, begins, judged, trace_limit, verdict}
 use Rattle.trace.proofs.Exact.{begins_only, line_some}
 use Rattle.checking.specs.declared.Checking.{Checking}
-use Rattle.checking.specs.Stores.{no_store, store_before, stores_before, written_by}
-use Rattle.checking.specs.State.{held, charged_next, line_due, Open, faulty, passed_on, Checked, no_line, written, differs, right}
+use Rattle.checking.specs.Stores.{no_store, store_before, stores_before}
+use Rattle.checking.specs.State.{line_due, Open, faulty, passed_on, Checked, no_line, written, differs, right}
 use Rattle.checking.specs.Follows.{Here, line_is, written_is, here_on}
 
 -- where a check starts

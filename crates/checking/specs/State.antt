@@ -1,5 +1,5 @@
 -- One line of a check, from what the checker holds.
-use Rattle.std.specs.Prelude.{ℕ, suc, ◌+◌, ◌*◌, ◌≤◌, ◌<◌, Bool, true, false, cond, not, ◌&&◌, ◌||◌, List, ◌≡◌, ltb, leb, eqb, length, drop}
+use Rattle.std.specs.Prelude.{ℕ, ◌+◌, ◌*◌, ◌≤◌, true, false, cond, ◌||◌, List, ◌≡◌, leb, length, drop}
 use Rattle.machine.specs.declared.Accessed.{Accessed}
 use Rattle.machine.specs.declared.Executed.{Executed}
 use Rattle.machine.specs.declared.Window.TheVariants.{NoWindow as no_window}
@@ -7,7 +7,7 @@ use Rattle.clocked.specs.declared.Kept.TheVariants.{LastKept as last_kept}
 use Rattle.machine.specs.Types.{is_bad}
 use Rattle.machine.specs.Memory.{Memory, through, value}
 use Rattle.machine.specs.Stages.{new_registers}
-use Rattle.machine.specs.Plain.{Plain, plain_of, fetched, executed, accessed, step}
+use Rattle.machine.specs.Plain.{Plain, plain_of, executed, accessed, step}
 use Rattle.clocked.specs.Prediction.{Core}
 use Rattle.clocked.specs.Charges.{amount, reason_from, retired_of}
 use Rattle.trace.specs.Line.{target_of, trace_line}
