@@ -19,11 +19,7 @@ pub returns-then-codes-chosen : goal.returns-then-codes-chosen
 returns-then-codes-chosen c = search (rules, refused_5)
 
 pub returns-then-start_refused : goal.returns-then-start_refused
-returns-then-start_refused c =
-    refused_6 _ _ _ _ _ _ _ _ _ c.size_refused.ensures c.if-size_refused.false _ c.if-registers-ne-REGISTER_BYTES.false c.budget_refused.ensures
-    c.if-budget_refused.false _ c.start_refused.ensures c.if-res-block.false c.if-codes-chosen.false c.if-start_refused.true
+returns-then-start_refused c = search (rules, refused_6)
 
 pub returns : goal.returns
-returns c =
-    refused_0 _ _ _ _ _ _ _ _ _ c.size_refused.ensures c.if-size_refused.false _ c.if-registers-ne-REGISTER_BYTES.false c.budget_refused.ensures
-    c.if-budget_refused.false _ c.start_refused.ensures c.if-res-block.false c.if-codes-chosen.false c.if-start_refused.false
+returns c = search (rules, refused_0)
