@@ -1,16 +1,12 @@
 -- Memory cleared, and the listing's bytes laid, line by line. Assumes nothing.
 use mathlib.Core.Path.{◌≡◌, refl, ap, sym, ◌∙◌}
-use mathlib.Core.Bool.{Bool, true, false, ◌||◌}
 use mathlib.Core.List.{List, [], ◌∷◌, ◌++◌}
-use Prim.Native.Nat.{ℕ, zero, suc, ◌+◌, ◌-◌, ◌*◌, ◌/◌, ◌≤◌, ◌<◌}
+use Prim.Native.Nat.{ℕ, suc, ◌+◌, ◌*◌, ◌/◌, ◌≤◌, ◌<◌}
 use native.Mathlib.Omega.{arith}
 use native.Mathlib.Numerals.{add-one}
-use lib.ListN.{length, take, drop, get_or, set, replicate, length-set, length-drop, replicate-append-replicate, drop_of_length-le}
-use lib.Seq.{sets, length-sets, take-suc-set, take-length, drop-cons}
-use Rattle.text.specs.Parts.{Text, has, before, behind, tab, line_feed, lines}
-use Rattle.text.specs.Hex.{hex_value, hex_number, hex_bytes}
-use Rattle.listing.specs.Grammar.{address_of, bytes_of, laid}
-use Rattle.listing.specs.Reading.{record_of}
+use lib.ListN.{length, take, drop, get_or, set, replicate, length-set, length-drop, replicate-append-replicate}
+use lib.Seq.{sets, take-suc-set, take-length, drop-cons}
+use Rattle.text.specs.Hex.{hex_value, hex_bytes}
 
 -- CLEARED: the first k bytes are 0
 pub record Clears (m₀ m : List ℕ) (k : ℕ) : Type 0 where

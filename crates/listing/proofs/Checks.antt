@@ -1,14 +1,11 @@
 -- One law for each way out of a check. Assumes nothing.
-use mathlib.Core.Path.{◌≡◌, refl, sym, ◌∙◌}
-use mathlib.Core.Bool.{Bool, true, false, cond, not, ◌||◌}
-use mathlib.Core.List.{List, [], ◌∷◌}
-use Prim.Native.Nat.{ℕ, ◌+◌, ◌-◌, ◌/◌, ◌%◌, ◌≤◌, ◌<◌}
-use native.Mathlib.Omega.{arith}
-use lib.Dec.{eqb}
+use mathlib.Core.Path.{◌≡◌}
+use mathlib.Core.Bool.{Bool, true, false, not}
+use Prim.Native.Nat.{ℕ, ◌+◌, ◌/◌, ◌%◌, ◌≤◌, ◌<◌}
 use lib.ListN.{length}
 use borrow.Author.Tests.{eq-eqb, ne_eqb, lt-ltb, le-ltb}
 use Rattle.text.specs.Parts.{Text, before, behind, tab}
-use Rattle.text.specs.Hex.{all_hex, hex_number, hex_bytes}
+use Rattle.text.specs.Hex.{all_hex, hex_number}
 use Rattle.text.specs.HexLaws.{hex_bytes_length}
 use Rattle.listing.specs.Grammar.{address_of, bytes_of, end_of}
 use Rattle.listing.specs.Reading.{Checked, form, count, order, beyond, right, wrong, record_of, missing, malformed, miscounted, lowest_kind, in_place, fault}

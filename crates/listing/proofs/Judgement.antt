@@ -1,15 +1,14 @@
 -- The judgement, line by line. Assumes nothing.
 use mathlib.Core.Path.{◌≡◌, refl, ap, sym, ◌∙◌}
-use mathlib.Core.Bool.{Bool, true, false}
-use mathlib.Core.List.{List, [], ◌∷◌}
+use mathlib.Core.Bool.{true, false}
 use Prim.Native.Nat.{ℕ, suc, ◌+◌, ◌-◌, ◌≤◌, ◌<◌}
 use native.Mathlib.Omega.{arith}
 use lib.ListN.{length, take, drop, get_or, length-drop, drop_of_length-le}
 use lib.Seq.{drop-cons, drop-drop}
 use Rattle.text.specs.Parts.{Text, has, before, behind, line_feed, lines}
 use Rattle.text.specs.PartsLaws.{before_taken, behind_dropped, has_there, has_nowhere}
-use Rattle.listing.specs.Reading.{Kind, Checked, Reading, form, right, wrong, good, faulty, record_of, fault, goes_on, judged, verdict}
-use Rattle.listing.specs.ReadingLaws.{judged_first, judged_last}
+use Rattle.listing.specs.Reading.{Kind, Checked, form, right, wrong, good, faulty, record_of, fault, goes_on, judged, verdict}
+use Rattle.listing.proofs.ReadingLaws.{judged_first, judged_last}
 
 -- THE LINE AT A PLACE of the text, which ends at another
 module _ (text : Text) (at end : ℕ) (e : end ≡ at + length (before line_feed (drop at text))) where

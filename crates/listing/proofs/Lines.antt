@@ -14,9 +14,9 @@ use Rattle.text.specs.Hex.{hex_number, hex_bytes}
 use Rattle.text.specs.HexLaws.{hex_bytes_length}
 use Rattle.machine.specs.Runs.{size_refused}
 use Rattle.listing.specs.Grammar.{Record, address_of, bytes_of, end_of, laid, image_of}
-use Rattle.listing.specs.Reading.{Kind, Reading, form, right, good, faulty, Answer, refused, read_as, record_of, records, fault, judged, verdict}
+use Rattle.listing.specs.Reading.{Kind, Reading, right, good, faulty, refused, read_as, record_of, records, fault, judged, verdict}
 use Rattle.listing.specs.Reading.{answered, done, listed}
-use Rattle.listing.specs.ReadingLaws.{judged_first, judged_last, records_first, went_on, Fine, fine, short_address}
+use Rattle.listing.proofs.ReadingLaws.{judged_first, judged_last, records_first, went_on, fine, short_address}
 use Rattle.listing.proofs.Judgement.{line_is, is_ended, rest_is}
 
 pub laid_length : (rs : List Record) (m : List ℕ) → length (laid rs m) ≡ length m

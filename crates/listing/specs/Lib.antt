@@ -1,4 +1,4 @@
--- Document 02's #103: what a listing is and means, how it is read, and that the reading is right.
+-- Document 02's #103: what a listing is and means, and how it is read. That the reading is right is proved in proofs/.
 pub mod Grammar
 pub mod Reading
 pub mod ReadingLaws

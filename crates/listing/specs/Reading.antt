@@ -1,5 +1,5 @@
 -- How a text is read: its lines, their fields, the kind of a faulty line, and the answer.
-use Rattle.std.specs.Prelude.{ℕ, ◌+◌, ◌%◌, Bool, cond, not, ◌||◌, List, [], ◌∷◌, ◌≡◌, eqb, ltb, length}
+use Rattle.std.specs.Prelude.{ℕ, ◌+◌, ◌%◌, Bool, cond, not, ◌||◌, List, [], ◌∷◌, eqb, ltb, length}
 use Rattle.machine.specs.Runs.{size_refused}
 use Rattle.text.specs.Parts.{Text, has, before, behind, tab, line_feed, lines}
 use Rattle.text.specs.Hex.{all_hex}

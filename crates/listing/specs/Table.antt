@@ -1,14 +1,9 @@
--- Worked texts, a line each, in one table: what is read, and each kind at its boundaries.
-use Rattle.std.specs.Prelude.{ℕ, Bool, true, false, ◌&&◌, List, [], ◌∷◌, ◌≡◌, refl, eqb, replicate}
+-- Worked texts, a line each, in one table: what is read, and each kind at its boundaries. That every case holds is proved in proofs/Table.antt.
+use Rattle.std.specs.Prelude.{ℕ, Bool, true, false, ◌&&◌, List, [], ◌∷◌, eqb, replicate}
 use Prim.Native.String.{String}
-use Rattle.std.proofs.lemmas.List.Edits.{sets}
 use Rattle.text.specs.Bytes.{bytes}
-use Rattle.text.specs.Parts.{has, before, behind, lines}
-use Rattle.text.specs.Hex.{is_hex, hex_value, all_hex, hex_from, hex_number, hex_bytes}
-use Rattle.machine.specs.Runs.{size_refused}
-use Rattle.listing.specs.Grammar.{address_of, bytes_of, end_of, laid, image_of}
-use Rattle.listing.specs.Reading.{kind_number, record_of, records, missing, malformed, miscounted, in_place, fault, lowest_kind, checked, goes_on, judged}
-use Rattle.listing.specs.Reading.{verdict, good, faulty, Answer, refused, read_as, answered, Answered, done, listed}
+use Rattle.listing.specs.Reading.{kind_number}
+use Rattle.listing.specs.Reading.{good, faulty, Answer, refused, read_as, listed}
 
 -- a text, read into memory whose bytes are all 7; the refusal, the line and the kind, each 0 where there is none; and memory afterwards
 pub record Case : Type 0 where
@@ -106,8 +101,3 @@ cases =
     -- refusal 1 before anything in the text
     ∷ refuses 0 "\n" 1
     ∷ []
-
--- every case holds
-pub cases_hold : all_hold cases ≡ true
-unfolding cases all_hold holds answers same bytes has before behind lines is_hex hex_value all_hex hex_from hex_number hex_bytes size_refused address_of bytes_of end_of laid image_of kind_number record_of records missing malformed miscounted in_place fault lowest_kind checked goes_on judged verdict done listed
-cases_hold = refl

@@ -18,7 +18,8 @@ use Rattle.text.specs.Parts.{Text, has, line_feed, lines}
 use Rattle.text.specs.Hex.{is_hex, hex_value, all_hex, hex_from, hex_number, hex_bytes}
 use Rattle.listing.specs.Grammar.{none, some, Record, remarked, address_of, bytes_of, end_of, laid, image_of, WellFormed, Listing, end, more}
 use Rattle.listing.specs.Reading.{records}
-use Rattle.listing.specs.Accepted.{Accepted, written_accepted}
+use Rattle.listing.specs.Accepted.{Accepted}
+use Rattle.listing.proofs.Accepted.{written_accepted}
 use Rattle.machine.specs.declared.Instruction.{Instruction}
 use Rattle.machine.specs.declared.Status.{Status}
 use Rattle.machine.specs.declared.Status.TheVariants.{Aok as aok, Hlt as hlt, Adr as adr, Ins as ins}
