@@ -1,8 +1,8 @@
 -- One law for each way out of a function, over variables for what its callees gave. Assumes nothing.
-use mathlib.Core.Path.{◌≡◌, refl, ap, sym, ◌∙◌, subst}
-use mathlib.Core.Bool.{Bool, true, false, cond, not, ◌||◌}
+use mathlib.Core.Path.{◌≡◌, refl, ap, sym, ◌∙◌}
+use mathlib.Core.Bool.{Bool, true, false, not, ◌||◌}
 use mathlib.Core.List.{List, [], ◌∷◌}
-use Prim.Native.Nat.{ℕ, suc, ◌+◌, ◌≤◌, ◌<◌}
+use Prim.Native.Nat.{ℕ, ◌+◌, ◌≤◌, ◌<◌}
 use native.Mathlib.Omega.{arith}
 use native.Mathlib.Numerals.{add-one}
 use borrow.Author.Tests.{eq-eqb, ne_eqb}
@@ -23,7 +23,7 @@ use Rattle.trace.specs.declared.Verdict.{Verdict}
 use Rattle.trace.specs.Verdict.{verdict}
 use Rattle.checking.specs.Loop.{Fresh}
 use Rattle.trace_edge.specs.Settings.{window_from, settings_from, numbers_refused}
-use Rattle.trace_edge.specs.Checks.{Check, check, check_refusal, start_of, check_done, checked}
+use Rattle.trace_edge.specs.Checks.{check, check_refusal, start_of, check_done, checked}
 use Rattle.trace_edge.specs.Allowed.{Allowed, allowed, rule_known, window_inside}
 
 -- THE NUMBERS

@@ -2,7 +2,7 @@
 use Rattle.std.specs.Prelude.{◌≡◌, Bool, false, not, ◌||◌, ℕ, ◌≤◌, eqb, ltb}
 use Rattle.std.proofs.Common.{sym, ◌∙◌}
 use borrow.Author.Tests.{eqb-true, not-false, ltb-false}
-use Rattle.machine.specs.Runs.{size_refused, window_refused, start_refused, lowest}
+use Rattle.machine.specs.Runs.{size_refused, window_refused, lowest}
 use Rattle.laws.specs.Tests.{neither}
 use Rattle.answers.specs.Refusals.{failed}
 use Rattle.trace_edge.specs.Settings.{window_from, numbers_refused}
