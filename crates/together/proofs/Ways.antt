@@ -13,7 +13,7 @@ use Rattle.machine.specs.Memory.{Memory, size, Registers}
 use Rattle.machine.specs.Runs.{plain_started, PlainAnswer, plain_answer, plain_run}
 use Rattle.clocked.specs.PipeRuns.{pipe_started, PipeAnswer, pipe_answer, pipe_run}
 use Rattle.account.specs.Statement.{Start}
-use Rattle.together.specs.Both.{plain_fresh, pipe_fresh, BothAnswer, both_answer, both_runs, AsDemanded, RunsBoth, both_agree}
+use Rattle.together.specs.Both.{plain_fresh, pipe_fresh, both_answer, both_runs, AsDemanded, RunsBoth, both_agree}
 
 -- FRESH RUNS
 module _ (r : Registers) (c : Codes) (a : ℕ) (m : Memory) (budget : ℕ) (n : ℕ) where
