@@ -1,7 +1,7 @@
 -- Demand 3 at the host edge: what an inspector reads in the lent bytes, said of the plain history alone. Assumes nothing.
 use Rattle.std.specs.Prelude.{ℕ, suc, ◌+◌, ◌≤◌, ◌<◌, ◌≡◌, Bool, List, [], ◌∷◌, length}
 use Rattle.std.proofs.Math.Path.{refl, subst}
-use Rattle.std.proofs.Common.{ap, sym, ◌∙◌, arith}
+use Rattle.std.proofs.Common.{ap, ◌∙◌, arith}
 use Rattle.std.proofs.Math.Bool.{true, false, cond}
 use Rattle.machine.specs.declared.Codes.{Codes}
 use Rattle.machine.specs.Types.{is_bad, status_number, codes_number}
@@ -17,7 +17,6 @@ use Rattle.account.specs.Seen.{Seen}
 use Rattle.account.proofs.Sight.{seen_on}
 use Rattle.account.proofs.Theorem.{demand3_seen}
 use Rattle.account.proofs.Uses.{due_only, due_stopped, always}
-use Rattle.account.specs.Midrun.{Landed}
 use Rattle.account.proofs.Midrun.{in_mid_run}
 use Rattle.account.proofs.TwoRuns.{unlogged_ran}
 use Rattle.block.specs.Block.{words_in, with_words, codes_from}
