@@ -1,14 +1,13 @@
 -- One law for each way out of a function. Assumes nothing.
 use Prim.Native.Nat.{ℕ, ◌-◌, ◌≤◌}
 use native.Mathlib.Omega.{arith}
-use mathlib.Core.Bool.{Bool, true, false, cond}
+use mathlib.Core.Bool.{Bool, true, false}
 use mathlib.Core.List.{List, [], ◌++◌, append-nil}
-use mathlib.Core.Path.{◌≡◌, refl, sym, ap, subst, ◌∙◌}
+use mathlib.Core.Path.{◌≡◌, sym, ap, subst, ◌∙◌}
 use lib.Dec.{T}
 use lib.ListN.{length, take, drop, length-drop, drop_of_length-le}
 use lib.Seq.{take-length}
 use borrow.Rule.Slice.PartMut.{mid_of, put_mid, Post-is}
-use Rattle.clocked.specs.declared.Settings.{Settings}
 use Rattle.clocked.specs.declared.Pipeline.{Pipeline}
 use Rattle.machine.specs.Memory.{Memory, lent}
 use Rattle.clocked.specs.PipeRuns.{pipe_answer}

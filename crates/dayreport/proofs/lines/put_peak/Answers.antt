@@ -1,0 +1,12 @@
+use Rattle.dayreport.proofs.Ways.{peak}
+use Rattle.text.specs.Bytes.{bytes}
+use native.Mathlib.Omega.{arith}
+use Rattle.dayreport.proofs.lines.put_peak.Goals as goal
+
+pub returns : goal.returns
+unfolding bytes
+returns c = record {
+  put = peak c.args.raw
+      c.put_number-a.ensures.put c.put_number.ensures.put;
+  upper_bound = omega arith;
+}

@@ -1,0 +1,9 @@
+-- The run is that of the definition (`Ways` `runs`), and the registers go back. A `let` names the record of facts behind a call by its type, for which
+-- `search` finds the place.
+use Rattle.edge.proofs.Ways.{runs}
+use Rattle.edge.proofs.replaying.replay.Goals as goal
+
+pub returns : goal.returns
+returns c =
+    let ran = runs _ _ _ _ _ _ _ _ _ _ _ _ _ c.read_registers.ensures c.codes_from.ensures c.start-started.ensures c.run_unlogged-answer.ensures in
+    (ran.0, ran.1, c.write_registers.ensures)
