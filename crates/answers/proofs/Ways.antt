@@ -4,7 +4,7 @@ use mathlib.Core.Bool.{Bool, true, false, cond, ◌||◌}
 use Prim.Native.Nat.{ℕ, ◌+◌, ◌-◌, ◌*◌, ◌≤◌, ◌<◌}
 use native.Mathlib.Omega.{arith}
 use lib.Dec.{ltb}
-use borrow.Author.Tests.{eq-eqb, ne_eqb, lt-ltb, le-ltb, ltb-true, ltb-false}
+use borrow.Author.Tests.{ne_eqb, lt-ltb, le-ltb, ltb-true, ltb-false}
 use Rattle.machine.specs.declared.Window.{Window}
 use Rattle.machine.specs.declared.Window.TheVariants.{NoWindow as no_window, Within as within}
 use Rattle.machine.specs.declared.Codes.{Codes}
@@ -13,7 +13,7 @@ use Rattle.machine.specs.Runs.{size_refused, budget_refused, start_refused, wind
 
 pub no_budget : (l c b : ℕ) → b ≡ 0 → true ≡ budget_refused l c b
 unfolding budget_refused
-no_budget l c b h = cc (eq-eqb b 0 h)
+no_budget l c b h = cc
 
 pub above : (l c b : ℕ) → (b ≡ 0 → ⊥) → l < b → true ≡ budget_refused l c b
 unfolding budget_refused

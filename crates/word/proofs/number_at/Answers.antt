@@ -12,7 +12,7 @@ taken c =
     let l = c.loop-k in
     let s = c.args in
     rw c.wide.ensures.0
-    (number_sooner _ c.shared_slice_known-in-loop-k-1.given 8 l.k s.at l.n (search rules) l.invariant.1 l.invariant.0)
+    (number_sooner _ (search rules) 8 l.k s.at l.n (search rules) l.invariant.1 l.invariant.0)
 
 pub loop-k-init : goal.loop-k-init
 unfolding number
