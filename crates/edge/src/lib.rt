@@ -1,4 +1,4 @@
-// The host edge: exported functions on byte slices and numbers.
+// The host edge: functions on byte slices and numbers, which edge_c exports.
 
 #![tactic(auto)]
 
@@ -21,8 +21,7 @@ const RESULT_BYTES: usize = 40;
 const FULL_BYTES: usize = 88;
 
 // One pipelined run without logs from a fresh start.
-#[unsafe(no_mangle)]
-pub extern "C" fn y86_replay(
+pub fn y86_replay(
     memory: &mut [u8],
     registers: &mut [u8],
     res: &mut [u8],
@@ -90,30 +89,21 @@ pub fn replay_set(
 }
 
 // Memory becomes the image of the listing (#103).
-#[unsafe(no_mangle)]
-pub extern "C" fn y86_read_listing(text: &[u8], memory: &mut [u8], fault: &mut [u8]) -> u64
+pub fn y86_read_listing(text: &[u8], memory: &mut [u8], fault: &mut [u8]) -> u64
     ensures { listing_edge result memory.new fault.new ≡ listing_read text.now memory.old fault.old }
 {
     listing_edge::read_listing(text, memory, fault)
 }
 
 // The day of the table at an address in a final memory, and the peak filed at another (#114).
-#[unsafe(no_mangle)]
-pub extern "C" fn y86_peaks(
-    memory: &[u8],
-    res: &mut [u8],
-    table: u64,
-    length: u64,
-    filed: u64,
-) -> u64
+pub fn y86_peaks(memory: &[u8], res: &mut [u8], table: u64, length: u64, filed: u64) -> u64
     ensures { day_at result res.new ≡ day_answer memory.now res.old table length filed }
 {
     day_edge::judge_day(memory, res, table, length, filed)
 }
 
 // The bytes of an instruction, its one form (#104).
-#[unsafe(no_mangle)]
-pub extern "C" fn y86_encode(
+pub fn y86_encode(
     bytes: &mut [u8],
     length: &mut [u8],
     code: u64,
@@ -129,8 +119,7 @@ pub extern "C" fn y86_encode(
 }
 
 // The listing of memory from a start up to an end, one instruction a line (#104).
-#[unsafe(no_mangle)]
-pub extern "C" fn y86_write_listing(
+pub fn y86_write_listing(
     memory: &[u8],
     text: &mut [u8],
     length: &mut [u8],
