@@ -7,7 +7,7 @@ use Rattle.std.proofs.Common.{sym}
 use Rattle.clocked.specs.declared.Settings.{Settings}
 use Rattle.clocked.specs.declared.Pipeline.{Pipeline}
 use Rattle.machine.specs.Memory.{lent}
-use Rattle.machine.specs.Plain.{Plain, is_stopped, steps}
+use Rattle.machine.specs.Plain.{is_stopped, steps}
 use Rattle.clocked.specs.Prediction.{as_in_01}
 use Rattle.clocked.specs.Premise.{Premise}
 use Rattle.clocked.specs.PipeRuns.{PipeAnswer, pipe_answer, pipe_run_unlogged}
