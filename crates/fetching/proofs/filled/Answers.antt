@@ -1,4 +1,5 @@
 use borrow.Author.Tests.{ne_eqb}
+use borrow.Author.Rules.{rules}
 use native.Mathlib.Omega.{arith}
 use Rattle.fetching.specs.Halves.{filled_by}
 use Rattle.fetching.proofs.filled.Goals as goal
@@ -26,4 +27,6 @@ returns-in-3 c = rw c.in-3.is
 
 pub returns-in_default : goal.returns-in_default
 unfolding filled_by
-returns-in_default c = simp (ne_eqb _ _ c.in_default.in_default-own.rest.0.0.1, ne_eqb _ _ c.in_default.in_default-own.rest.0.1, ne_eqb _ _ c.in_default.in_default-own.rest.1)
+returns-in_default c =
+    let byte = c.args.byte in
+    simp (ne_eqb byte 1 (search rules), ne_eqb byte 2 (search rules), ne_eqb byte 3 (search rules))

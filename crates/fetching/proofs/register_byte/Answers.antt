@@ -1,12 +1,13 @@
 use native.Mathlib.Omega.{arith}
+use borrow.Author.Rules.{rules}
 use Rattle.fetching.specs.Halves.{filled_by}
 use Rattle.fetching.proofs.register_byte.Goals as goal
 
 pub overflow_add-at : goal.overflow_add-at
-overflow_add-at c = omega (arith, c.requires c.in_default.in_default-own.rest.1)
+overflow_add-at c = omega (arith, c.requires (search rules))
 
 pub bounds-memory-at : goal.bounds-memory-at
-bounds-memory-at c = c.requires c.in_default.in_default-own.rest.1
+bounds-memory-at c = c.requires (search rules)
 
 pub returns-in-0 : goal.returns-in-0
 unfolding filled_by

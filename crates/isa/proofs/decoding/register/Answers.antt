@@ -1,4 +1,5 @@
 use borrow.Author.Tests.{ne_eqb}
+use borrow.Author.Rules.{rules}
 use Rattle.isa.specs.Decisions.{register_by}
 use Rattle.isa.proofs.decoding.register.Goals as goal
 
@@ -16,4 +17,6 @@ returns-in-3 c = rw c.in-3.is
 
 pub returns-in_default : goal.returns-in_default
 unfolding register_by
-returns-in_default c = simp (ne_eqb _ _ c.in_default.in_default-own.rest.0.0.1, ne_eqb _ _ c.in_default.in_default-own.rest.0.1, ne_eqb _ _ c.in_default.in_default-own.rest.1)
+returns-in_default c =
+    let which = c.args.which in
+    simp (ne_eqb which 1 (search rules), ne_eqb which 2 (search rules), ne_eqb which 3 (search rules))

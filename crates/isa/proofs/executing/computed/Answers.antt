@@ -1,6 +1,7 @@
 -- Each arm is the clause of `computed_by` for that number; the last is reached when the number is none of the six.
 use Rattle.isa.specs.Decisions.{computed_by}
 use borrow.Author.Tests.{ne_eqb}
+use borrow.Author.Rules.{rules}
 use Rattle.isa.proofs.executing.computed.Goals as goal
 
 pub returns-in-1 : goal.returns-in-1
@@ -30,9 +31,5 @@ returns-in-6 c = rw c.in-6.is c.sum-in-6.ensures
 pub returns-in_default : goal.returns-in_default
 unfolding computed_by
 returns-in_default c =
-    let six = c.in_default.in_default-own.rest in
-    let five = six.0 in
-    let four = five.0 in
-    let three = four.0 in
-    let two = three.0 in
-    simp (ne_eqb _ _ two.0.1, ne_eqb _ _ two.1, ne_eqb _ _ three.1, ne_eqb _ _ four.1, ne_eqb _ _ five.1, ne_eqb _ _ six.1)
+    let kind = c.args.kind in
+    simp (ne_eqb kind 1 (search rules), ne_eqb kind 2 (search rules), ne_eqb kind 3 (search rules), ne_eqb kind 4 (search rules), ne_eqb kind 5 (search rules), ne_eqb kind 6 (search rules))

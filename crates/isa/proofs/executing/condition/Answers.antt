@@ -1,5 +1,6 @@
 -- Each arm is the entry of the definition's list at that number; past six the list has none (`Ways` `no_condition`).
-use Rattle.isa.proofs.Ways.{past_six, no_condition}
+use Rattle.isa.proofs.Ways.{no_condition}
+use native.Mathlib.Omega.{arith}
 use Rattle.machine.specs.Stages.{condition}
 use Rattle.isa.proofs.executing.condition.Goals as goal
 
@@ -32,11 +33,4 @@ unfolding condition
 returns-in-6 c = rw c.in-6.is
 
 pub returns-in_default : goal.returns-in_default
-returns-in_default c =
-    let six = c.in_default.in_default-own.rest in
-    let five = six.0 in
-    let four = five.0 in
-    let three = four.0 in
-    let two = three.0 in
-    let one = two.0 in
-    no_condition _ _ (past_six _ one.0.1 one.1 two.1 three.1 four.1 five.1 six.1)
+returns-in_default c = no_condition _ _ (omega arith)

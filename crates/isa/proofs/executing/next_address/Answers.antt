@@ -9,6 +9,4 @@ pub returns-in-7 : goal.returns-in-7
 returns-in-7 c = search (rules, jumps_to)
 
 pub returns-in_default : goal.returns-in_default
-returns-in_default c =
-    let other = c.in_default.in_default-own.rest in
-    goes_on_lem _ _ other.0.1 other.1 c.straight.ensures
+returns-in_default c = search (rules, goes_on_lem)

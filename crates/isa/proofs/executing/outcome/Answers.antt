@@ -6,4 +6,4 @@ pub returns-in-2 : goal.returns-in-2
 returns-in-2 c = search (rules, tested)
 
 pub returns-in_default : goal.returns-in_default
-returns-in_default c = untested _ _ c.in_default.in_default-own.rest.1
+returns-in_default c = search (rules, untested)
