@@ -32,6 +32,7 @@ fn in_place(address: u64, count: u64, free: u64, size: u64) -> Checked
 }
 
 // A line, without its line feed.
+#[tactic(auto, using(crate::proofs::Checks::long_address, crate::proofs::Checks::many))]
 fn check(line: &[u8], free: u64, size: u64) -> Checked
     ensures { result ≡ fault size free (record_of line.now) }
 {

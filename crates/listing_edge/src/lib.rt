@@ -21,6 +21,7 @@ fn kind_number(kind: Kind) -> u64
 }
 
 // The lowest refusal that applies before the text is read, or 0.
+#[tactic(auto, using(crate::proofs::Faults::no_block))]
 fn refusal(memory: usize, fault: usize) -> u64
     ensures { result ≡ listing_refusal memory fault }
 {

@@ -64,6 +64,10 @@ pub no_register_lem : (q v at : ℕ) (a : List ℕ) → v ≡ 0 → Put (registe
 unfolding register_line
 no_register_lem q v at a h = rw (eq-eqb v 0 h) (put_nothing at a)
 
+pub no_line : (q v : ℕ) → v ≡ 0 → register_line q v ≡ []
+unfolding register_line
+no_line q v h = rw (eq-eqb v 0 h)
+
 pub all_registers : (q : ℕ) (registers : List ℕ) {a b : List ℕ} {at r : ℕ} → q ≤ 15 → 15 ≤ q
     → Put (register_lines q registers) at a r b → Put (register_lines 15 registers) at a r b
 all_registers q registers {a} {b} {at} {r} h k x =

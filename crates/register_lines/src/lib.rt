@@ -29,6 +29,7 @@ pub fn put_named(buffer: &mut [u8], at: usize, k: usize, v: u64) -> usize
 }
 
 // A register that is not 0 has a line.
+#[tactic(auto, using(crate::proofs::Ways::no_line))]
 fn put_register(buffer: &mut [u8], at: usize, k: usize, v: u64) -> usize
     requires { (k < 15) × (at + 29 < 2 ^ 64) }
     ensures put { Put (register_line k v) at buffer.old result buffer.new }

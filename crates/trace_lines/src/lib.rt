@@ -16,6 +16,7 @@ use report_lines::put_number;
 use text::{put_byte, put_decimal};
 
 // The loaded word's target goes before the result's; 15 for none.
+#[tactic(auto, using(crate::proofs::Ways::loaded))]
 pub fn target_of(w: Accessed) -> u8
     ensures { result ≡ target_of w }
 {

@@ -37,6 +37,11 @@ module _ {a b : List ℕ} {at r : ℕ} where
       let e : suc k - 1 ≡ k = omega arith in
       rw (le-ltb n 16 h) (put_both (subst (λ (j : ℕ). Put (hex_digits j (n / 16)) at a r b) e x) y)
 
+pub one_hex : (k n : ℕ) → n < 16 → hex_digits k n ≡ hex_digit (n % 16) ∷ []
+unfolding hex_digits
+one_hex zero n h = refl
+one_hex (suc k) n h = rw (lt-ltb n 16 h)
+
 pairs_joined : (s t : List ℕ) → hex_pairs (s ++ t) ≡ hex_pairs s ++ hex_pairs t
 unfolding hex_pairs
 pairs_joined [] t = refl

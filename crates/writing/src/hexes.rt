@@ -16,6 +16,7 @@ fn put_digit(buffer: &mut [u8], at: usize, digit: u8) -> usize
 }
 
 // The digits of the sixteenth, and the last digit behind them.
+#[tactic(auto, using(crate::proofs::Digits::one_hex))]
 fn put_digits(buffer: &mut [u8], at: usize, left: usize, n: u64) -> usize
     requires { at + left + 1 < 2 ^ 64 }
     ensures put { Put (hex_digits left n) at buffer.old result buffer.new }

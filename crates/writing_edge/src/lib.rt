@@ -12,6 +12,7 @@ use block::write_words;
 use writing::put_listing;
 
 // The lowest refusal that applies before the length is known, or 0.
+#[tactic(auto, using(crate::proofs::Ways::no_block))]
 fn encode_refusal(told: usize, code: u64, function: u64, ra: u64, rb: u64, constant: u64) -> u64
     ensures { result ≡ encode_refusal told (fields code function ra rb constant) }
 {
@@ -84,6 +85,7 @@ fn listing_length(memory: &[u8], start: u64, end: u64) -> usize
 }
 
 // The listing of memory from a start up to an end.
+#[tactic(auto, using(crate::proofs::Ways::listing_too_short))]
 pub fn write_listing(memory: &[u8], text: &mut [u8], told: &mut [u8], start: u64, end: u64) -> u64
     ensures { written result text.new told.new
         ≡ listing_written memory.now text.old told.old start end }

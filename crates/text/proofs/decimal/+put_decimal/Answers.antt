@@ -3,7 +3,7 @@ use native.Mathlib.Nat.{mod-lt}
 use native.Mathlib.Omega.{arith}
 use Rattle.text.specs.Decimal.{tenth_less, tenth_length}
 use Rattle.text.specs.Put.{put_length}
-use Rattle.text.proofs.Ways.{one_digit, more_digits}
+use Rattle.text.proofs.Ways.{more_digits}
 use Rattle.text.proofs.decimal.+put_decimal.Goals as goal
 
 pub overflow_cast-n : goal.overflow_cast-n
@@ -14,14 +14,6 @@ overflow_add-n t c = omega arith
 
 pub put_byte-requires : goal.put_byte-requires
 put_byte-requires t c = omega arith
-
-pub shape_of-buffer-then-n-lt10 : goal.shape_of-buffer-then-n-lt10
-shape_of-buffer-then-n-lt10 t c = put_length c.put_byte.ensures
-
-pub returns-then-n-lt10 : goal.returns-then-n-lt10
-returns-then-n-lt10 t c =
-    let p = c.put_byte.ensures in
-    record { put = one_digit (omega arith) p; upper_bound = omega arith }
 
 pub put_decimal-next-requires : goal.put_decimal-next-requires
 put_decimal-next-requires t c =

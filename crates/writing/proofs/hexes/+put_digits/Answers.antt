@@ -1,7 +1,7 @@
 use native.Mathlib.Omega.{arith}
 use native.Mathlib.Nat.{mod-lt}
 use borrow.Author.Rules.{rules}
-use Rattle.writing.proofs.Digits.{last_digit, only_digit, more_digits}
+use Rattle.writing.proofs.Digits.{last_digit, more_digits}
 use Rattle.writing.proofs.hexes.+put_digits.Goals as goal
 
 pub overflow_cast-last : goal.overflow_cast-last
@@ -12,12 +12,6 @@ put_digit-requires t c = (omega arith, mod-lt c.args.n {m = 16} (omega arith))
 
 pub returns-then-left-eq0 : goal.returns-then-left-eq0
 returns-then-left-eq0 t c = record { put = search (rules, last_digit); upper_bound = omega arith }
-
-pub put_digit-requires-then-n-lt16 : goal.put_digit-requires-then-n-lt16
-put_digit-requires-then-n-lt16 t c = (omega arith, mod-lt c.args.n {m = 16} (omega arith))
-
-pub returns-then-n-lt16 : goal.returns-then-n-lt16
-returns-then-n-lt16 t c = record { put = search (rules, only_digit); upper_bound = omega arith }
 
 pub overflow_sub-left : goal.overflow_sub-left
 overflow_sub-left t c = omega arith
