@@ -3,7 +3,7 @@ use mathlib.Core.Path.{◌≡◌, refl, sym, ap}
 use mathlib.Core.Bool.{Bool, true, false, cond, not, ◌&&◌, ◌||◌, beq}
 use mathlib.Core.List.{List, [], ◌∷◌}
 use mathlib.Core.Logic.{◌⊎◌, inl, inr}
-use Prim.Native.Nat.{ℕ, ◌+◌, ◌-◌, ◌≤◌, ◌<◌}
+use Prim.Native.Nat.{ℕ, zero, suc, ◌+◌, ◌-◌, ◌≤◌, ◌<◌}
 use native.Mathlib.Omega.{arith}
 use lib.Bits.{bit_and, bit_xor}
 use lib.Dec.{ltb, eqb}
@@ -77,6 +77,16 @@ no_operation f a b h = missing (sum b a ∷ difference b a ∷ bit_and b a ∷ b
 pub no_overflow : (f a b : ℕ) → 2 ≤ f → false ≡ overflows f a b
 unfolding overflows
 no_overflow f a b h = missing (outside w64 (signed b +ℤ signed a) ∷ outside w64 (signed b -ℤ signed a) ∷ []) f false h
+
+pub past_six : (f : ℕ) → (f ≡ 0 → ⊥) → (f ≡ 1 → ⊥) → (f ≡ 2 → ⊥) → (f ≡ 3 → ⊥) → (f ≡ 4 → ⊥) → (f ≡ 5 → ⊥) → (f ≡ 6 → ⊥) → 7 ≤ f
+past_six zero h0 h1 h2 h3 h4 h5 h6 = absurd (h0 refl)
+past_six (suc zero) h0 h1 h2 h3 h4 h5 h6 = absurd (h1 refl)
+past_six (suc (suc zero)) h0 h1 h2 h3 h4 h5 h6 = absurd (h2 refl)
+past_six (suc (suc (suc zero))) h0 h1 h2 h3 h4 h5 h6 = absurd (h3 refl)
+past_six (suc (suc (suc (suc zero)))) h0 h1 h2 h3 h4 h5 h6 = absurd (h4 refl)
+past_six (suc (suc (suc (suc (suc zero))))) h0 h1 h2 h3 h4 h5 h6 = absurd (h5 refl)
+past_six (suc (suc (suc (suc (suc (suc zero)))))) h0 h1 h2 h3 h4 h5 h6 = absurd (h6 refl)
+past_six (suc (suc (suc (suc (suc (suc (suc f))))))) h0 h1 h2 h3 h4 h5 h6 = omega arith
 
 pub no_condition : (f : ℕ) (c : Codes) → 7 ≤ f → false ≡ condition f c
 unfolding condition
