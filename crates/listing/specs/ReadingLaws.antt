@@ -1,8 +1,7 @@
--- What is known of a line that is right. That it holds is proved in proofs/ReadingLaws.antt.
+-- What is known of a line that is right. That it is so is proved in proofs/ReadingLaws.antt.
 use Rattle.std.specs.Prelude.{◌≡◌, false, ℕ, ◌≤◌}
 use Rattle.listing.specs.Grammar.{Record, address_of, end_of}
-use Rattle.listing.specs.Reading.{malformed}
-use Rattle.listing.specs.Reading.{miscounted}
+use Rattle.listing.specs.Reading.{malformed, miscounted}
 
 pub record Fine (size free : ℕ) (r : Record) (next : ℕ) : Type 0 where
   pub formed : malformed r ≡ false

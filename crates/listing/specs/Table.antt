@@ -2,8 +2,7 @@
 use Rattle.std.specs.Prelude.{ℕ, Bool, true, false, ◌&&◌, List, [], ◌∷◌, eqb, replicate}
 use Prim.Native.String.{String}
 use Rattle.text.specs.Bytes.{bytes}
-use Rattle.listing.specs.Reading.{kind_number}
-use Rattle.listing.specs.Reading.{good, faulty, Answer, refused, read_as, listed}
+use Rattle.listing.specs.Reading.{kind_number, good, faulty, Answer, refused, read_as, listed}
 
 -- a text, read into memory whose bytes are all 7; the refusal, the line and the kind, each 0 where there is none; and memory afterwards
 pub record Case : Type 0 where

@@ -4,11 +4,6 @@ use Prim.Native.Nat.{◌+◌, ◌*◌, ◌<◌}
 use borrow.Author.Rules.{rules}
 use Rattle.encoding.proofs.put_pair.Goals as goal
 
-pub overflow_mul-high : goal.overflow_mul-high
-overflow_mul-high c =
-    let h : 16 * c.half-high.result + c.half-low.result < 256 = search (rules, pair_small) in
-    omega arith
-
 pub overflow_add-high : goal.overflow_add-high
 overflow_add-high c =
     let h : 16 * c.half-high.result + c.half-low.result < 256 = search (rules, pair_small) in

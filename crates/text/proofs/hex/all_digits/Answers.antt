@@ -1,4 +1,3 @@
-use borrow.Author.Tests.{not-true, not-false}
 use native.Mathlib.Omega.{arith}
 use Rattle.text.proofs.Digits.{tried_none, tried_more, not_all, all_tried}
 use Rattle.text.proofs.hex.all_digits.Goals as goal
@@ -11,7 +10,7 @@ bounds-s-k c = omega arith
 
 pub returns-then-not-is_digit : goal.returns-then-not-is_digit
 returns-then-not-is_digit c =
-    not_all _ _ c.loop-k.invariant c.loop-k-test.true _ c.is_digit.ensures (not-true _ c.if-not-is_digit.true-raw)
+    not_all _ _ c.loop-k.invariant c.loop-k-test.true _ c.is_digit.ensures c.if-not-is_digit.true
 
 pub overflow_add-k : goal.overflow_add-k
 overflow_add-k c = omega arith
@@ -21,7 +20,7 @@ loop-k-smaller c = omega arith
 
 pub loop-k-preserved : goal.loop-k-preserved
 loop-k-preserved c =
-    tried_more _ _ c.loop-k.invariant c.loop-k-test.true _ c.is_digit.ensures (not-false _ c.if-not-is_digit.false-raw)
+    tried_more _ _ c.loop-k.invariant c.loop-k-test.true _ c.is_digit.ensures c.if-not-is_digit.false
 
 pub returns : goal.returns
 returns c = all_tried _ _ c.loop-k.invariant c.loop-k-test.false
