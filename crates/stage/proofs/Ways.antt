@@ -108,7 +108,7 @@ meets_one l a b x y p q = cc
 -- the rules, by their numbers
 pub guessed_never : (s : Settings) (i : Instruction) → s.rule ≡ 1 → eqb i.function 0 ≡ guess (core_of s) i
 unfolding guess rule
-guessed_never s i h = cc (eq-eqb s.rule 1 h, or_false (eqb i.function 0))
+guessed_never s i h = cc (or_false (eqb i.function 0))
 
 pub guessed_backward : (s : Settings) (i : Instruction) → s.rule ≡ 2 → (eqb i.function 0 || ltb i.constant i.next) ≡ guess (core_of s) i
 unfolding guess rule
@@ -266,7 +266,7 @@ no_w w f h = cc
 
 pub back_to : (w : StageW) (f : ℕ) (x : Accessed) → w ≡ in_w x → x.instruction.code ≡ 9 → x.word ≡ returned_to w f
 unfolding returned_to is
-back_to w f x h k = cc (eq-eqb x.instruction.code 9 k)
+back_to w f x h k = cc
 
 pub no_return : (w : StageW) (f : ℕ) (x : Accessed) → w ≡ in_w x → (x.instruction.code ≡ 9 → ⊥) → f ≡ returned_to w f
 unfolding returned_to is

@@ -1,5 +1,4 @@
--- A clock of all stages. What each call gave goes into the one law `Ways` `flow_is`; memory and registers are those that the writes left. A `let` names
--- the record of facts behind a call by its type, for which `search` finds the place.
+-- A clock of all stages. What each call gave goes into the one law `Ways` `flow_is`; memory and registers are those that the writes left.
 use Rattle.flow.proofs.Ways.{m_carried, w_carried, flow_is}
 use borrow.Author.Rules.{rules}
 use Rattle.flow.proofs.advance.Goals as goal

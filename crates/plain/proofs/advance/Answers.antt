@@ -1,5 +1,5 @@
--- One instruction, stage by stage: a `let` names the record of facts behind a stage's call by its type, for which `search` finds the place. The two ways
--- out are those of the definition's step, the stop (`Ways` `stops`) and the instruction performed (`Ways` `performs`).
+-- One instruction, stage by stage. The two ways out are those of the definition's step, the stop (`Ways` `stops`) and the instruction performed
+-- (`Ways` `performs`).
 use Rattle.plain.proofs.Ways.{stops, performs}
 use Rattle.machine.specs.Memory.{lent}
 use Rattle.plain.proofs.advance.Goals as goal

@@ -1,4 +1,6 @@
 use Rattle.plain.proofs.Ways.{runs_on, goes_first, goes_on_lem, goes_over, goes_out}
+use mathlib.Core.Path.{ap}
+use mathlib.Core.Bool.{not}
 use borrow.Author.Rules.{rules}
 use native.Mathlib.Omega.{arith}
 use Rattle.machine.specs.Memory.{lent}
@@ -10,7 +12,7 @@ loop-done-init c =
 
 pub advance-s-requires : goal.advance-s-requires
 advance-s-requires c =
-    (omega (arith, c.loop-done.invariant.counted, c.loop-done-test.true), runs_on _ _ c.is_stopped.ensures c.if-not-is_stopped.true-raw)
+    (omega (arith, c.loop-done.invariant.counted, c.loop-done-test.true), runs_on _ _ c.is_stopped.ensures (ap not c.if-not-is_stopped.true))
 
 pub overflow_add-done : goal.overflow_add-done
 overflow_add-done c = omega arith
@@ -20,7 +22,7 @@ loop-done-smaller c = omega arith
 
 pub loop-done-preserved : goal.loop-done-preserved
 loop-done-preserved c =
-    goes_on_lem _ _ _ _ _ _ _ _ c.loop-done.invariant _ _ _ _ c.loop-done-test.true c.is_stopped.ensures c.if-not-is_stopped.true-raw
+    goes_on_lem _ _ _ _ _ _ _ _ c.loop-done.invariant _ _ _ _ c.loop-done-test.true c.is_stopped.ensures (ap not c.if-not-is_stopped.true)
     (search (rules, c.advance-s.auto)) c.note.ensures c.advance-s.ensures
 
 pub shape_of-memory-else-not-is_stopped : goal.shape_of-memory-else-not-is_stopped
@@ -33,7 +35,7 @@ shape_of-log-else-not-is_stopped c =
 
 pub returns-else-not-is_stopped : goal.returns-else-not-is_stopped
 returns-else-not-is_stopped c =
-    goes_over _ _ _ _ _ _ _ _ c.loop-done.invariant _ c.is_stopped.ensures c.if-not-is_stopped.false-raw
+    goes_over _ _ _ _ _ _ _ _ c.loop-done.invariant _ c.is_stopped.ensures (ap not c.if-not-is_stopped.false)
 
 pub shape_of-memory-after-loop-done : goal.shape_of-memory-after-loop-done
 shape_of-memory-after-loop-done c =

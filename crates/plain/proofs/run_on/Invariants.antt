@@ -1,6 +1,5 @@
 -- The invariant `Goes`: `done` instructions have been performed and logged, each at its place, the count with what is left of the budget is within
--- the limit, and memory and log keep their lengths. The measure is what is left of the budget. A `let` names the record of facts at a place by its type,
--- for which `search` finds the place.
+-- the limit, and memory and log keep their lengths. The measure is what is left of the budget.
 use Rattle.plain.proofs.Ways.{Goes}
 use Prim.Native.Nat.{◌-◌}
 use Rattle.machine.specs.Memory.{lent}

@@ -3,10 +3,8 @@ use Rattle.retiring.proofs.Ways.{only_a_cycle, one_retired}
 use borrow.Author.Rules.{rules}
 use Rattle.retiring.proofs.counted.Goals as goal
 
--- src/lib.rt:136:1
 pub returns-in-BubbleW : goal.returns-in-BubbleW
 returns-in-BubbleW c = search (rules, only_a_cycle)
 
--- src/lib.rt:136:1
 pub returns-in-InW : goal.returns-in-InW
 returns-in-InW c = search (rules, one_retired)
