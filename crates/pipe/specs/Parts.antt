@@ -1,5 +1,5 @@
 -- The record taken apart: what the code works on for the length of a run, in the words of clocked's Pipeline and PipeRuns.
-use Rattle.std.specs.Prelude.{ℕ, Bool, cond, ◌||◌, List, [], ◌∷◌, eqb, length, set}
+use Rattle.std.specs.Prelude.{ℕ, Bool, cond, ◌||◌, List, [], ◌∷◌, eqb, set}
 use Rattle.clocked.specs.declared.Settings.{Settings}
 use Rattle.clocked.specs.declared.Pipeline.{Pipeline}
 use Rattle.clocked.specs.declared.StageW.{StageW}

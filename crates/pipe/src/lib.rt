@@ -77,6 +77,7 @@ pub fn start(
 }
 
 // What the entries share: short says that a lent log is shorter than the budget, and empty logs mean none.
+#[tactic(auto, using(crate::proofs::Entries::refused))]
 fn perform(
     pipeline: Pipeline,
     memory: &mut [u8],

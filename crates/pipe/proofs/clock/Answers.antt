@@ -1,5 +1,4 @@
 use Rattle.pipe.proofs.Entries.{one_clock}
-use borrow.Author.Rules.{rules}
 use Rattle.pipe.proofs.clock.Goals as goal
 
 pub returns : goal.returns

@@ -1,5 +1,4 @@
 use Rattle.pipe.proofs.Entries.{with_logs}
-use borrow.Author.Rules.{rules}
 use Rattle.pipe.proofs.run.Goals as goal
 
 pub returns : goal.returns

@@ -1,5 +1,4 @@
 use Rattle.pipe.proofs.Entries.{without_logs}
-use borrow.Author.Rules.{rules}
 use Rattle.pipe.proofs.run_unlogged.Goals as goal
 
 pub returns : goal.returns

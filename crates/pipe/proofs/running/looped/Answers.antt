@@ -1,13 +1,9 @@
-use mathlib.Core.Logic.{⊎_elim}
 use mathlib.Core.Path.{◌≡◌, refl, sym, ◌∙◌}
-use Prim.Native.Nat.{◌-◌, ◌≤◌}
 use native.Mathlib.Omega.{arith}
 use lib.ListN.{length}
 use borrow.Author.Rules.{rules}
-use Rattle.machine.specs.Memory.{lent, through}
-use Rattle.clocked.specs.Pipeline.{piped_of}
-use Rattle.pipe.specs.Parts.{whole}
-use Rattle.pipe.proofs.Runs.{Here, here_first, here_next, here_stopped, at_budget, at_stop, same_start, same_lengths, small_enough}
+use Rattle.machine.specs.Memory.{lent}
+use Rattle.pipe.proofs.Runs.{here_first, here_next, here_stopped, at_budget, at_stop, same_start, same_lengths, small_enough}
 use Rattle.pipe.proofs.running.looped.Goals as goal
 use Rattle.pipe.proofs.running.looped.Goals.{else-loop-done-test, then-loop-done-test+then-is_bad, then-loop-done-test+else-is_bad+then-bad_in_w}
 

@@ -1,17 +1,13 @@
 -- The invariant: flow, counts, status, registers, memory and logs are those after `done` clocks of the definition (`Runs` `Here`, which also keeps the
 -- counts small and the carried targets right), `done` is within the budget, and memory keeps its length. The measure is what is left of the budget.
--- A turn goes on by `here_next`, or stops in its clock by `here_stopped`. A `let` names the record of facts at a place by its type, for which `search`
--- finds the way; a way out of the loop names its facts in the order of the code.
-use mathlib.Core.Logic.{⊎_elim}
-use mathlib.Core.Path.{◌≡◌, refl, sym, ◌∙◌}
+-- A turn goes on by `here_next`, or stops in its clock by `here_stopped`; a way out of the loop names its facts in the order of the code.
+use mathlib.Core.Path.{◌≡◌}
 use Prim.Native.Nat.{◌-◌, ◌≤◌}
-use native.Mathlib.Omega.{arith}
 use lib.ListN.{length}
-use borrow.Author.Rules.{rules}
 use Rattle.machine.specs.Memory.{lent, through}
 use Rattle.clocked.specs.Pipeline.{piped_of}
 use Rattle.pipe.specs.Parts.{whole}
-use Rattle.pipe.proofs.Runs.{Here, here_first, here_next, here_stopped, at_budget, at_stop, same_start, same_lengths, small_enough}
+use Rattle.pipe.proofs.Runs.{Here}
 use Rattle.pipe.proofs.running.looped.Given as goal
 
 abbrev pub invariant-loop-done : goal.invariant-loop-done
