@@ -141,7 +141,7 @@ module _ (g : Core) (s : Plain) (K : ℕ) (p : Piped) (c : ℕ)
     sees : Sees g s (c + 1) j n
     codes : (advanced g p).pipeline.codes ≡ (steps s n).machine.codes
     read : is_stopped (steps s n) ≡ false → (q : ℕ) → loads_into p.pipeline.e q ≡ false → source g p q ≡ value (steps s n).machine.registers q
-    -- of an instruction that does not wait, val_a is read in D or handed over in E
+    -- of an instruction that does not wait, valA is read in D or handed over in E
     hand : is_stopped (steps s n) ≡ false → (i : Instruction) → loads_into p.pipeline.e (awaited_a g i) ≡ false
         → handed_a g (after_m (advanced g p).pipeline.m (advanced g p).memory) (decode i (source g p)) ≡ value (steps s n).machine.registers (source_a i)
 

@@ -90,7 +90,7 @@ module _ (g : Core) (p : Piped) where
 
   -- ... on the plain engine's own values
   module _ (s : Plain) where
-    -- val_a may come late
+    -- valA may come late
     pub e_in : cancels p ≡ false → waits g p ≡ false → mispredicts g p ≡ false → p.pipeline.d ≡ in_d (fetched s)
         → handed_a g (after_m (advanced g p).pipeline.m (advanced g p).memory) (decode (fetched s) (source g p))
         ≡ value s.machine.registers (source_a (fetched s))

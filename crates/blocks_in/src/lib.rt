@@ -3,7 +3,7 @@
 // A block of words holds a record. A word that the block lacks reads 0, and a place that it lacks takes nothing.
 //
 //   part         words  what they hold, in this order
-//   instruction     10  a mark (0: a bubble, or none kept; 1: an instruction), address, status, code, function, r_a, r_b, constant, next, fault
+//   instruction     10  a mark (0: a bubble, or none kept; 1: an instruction), address, status, code, function, rA, rB, constant, next, fault
 //   state           22  fifteen registers, ZF, SF, OF, status, last address, fault, fault address
 //   window           3  whether there is one, its first address, its end
 //

@@ -115,10 +115,10 @@ cases =
     ∷ case 11 11 0xc0f1_ffffffffffffff7f_00 ((1, 2 ^ 63) ∷ []) hlt 10 2 2 6 0 0 0 ((register, 1, 2 ^ 64 - 1) ∷ [])
     ∷ case 11 11 0xc0f1_0000000000000080_00 ((1, 2 ^ 64 - 1) ∷ []) hlt 10 1 2 6 0 0 0 ((register, 1, 2 ^ 63 - 1) ∷ [])
     ∷ case 11 11 0xc0f1_0000000000000080_00 ((1, 2 ^ 63) ∷ []) hlt 10 5 2 6 0 0 0 ((register, 1, 0) ∷ [])
-    -- iaddq is charged 1 behind a load of r_b, mrmovq 0(rax), rcx, and not behind one of another register
+    -- iaddq is charged 1 behind a load of rB, mrmovq 0(rax), rcx, and not behind one of another register
     ∷ case 21 21 0x5010_0000000000000000_c0f1_0500000000000000_00 [] hlt 20 0 3 8 1 0 0 ((register, 1, 0x1055) ∷ (charged, 2, 1) ∷ [])
     ∷ case 21 21 0x5010_0000000000000000_c0f2_0500000000000000_00 [] hlt 20 0 3 7 0 0 0 ((register, 2, 5) ∷ (charged, 2, 0) ∷ [])
-    -- the seven conditions, by cmov_xx rax after subq rax, rcx: equal, less, greater
+    -- the seven conditions, by cmovXX rax after subq rax, rcx: equal, less, greater
     ∷ case 17 17 0x6101_2002_2103_2205_2306_2407_2508_2609_00 ((0, 1) ∷ (1, 1) ∷ []) hlt 16 4 9 13 0 0 0 ((register, 2, 1) ∷ (register, 3, 1) ∷ (register, 5, 0) ∷ (register, 6, 1) ∷ (register, 7, 0) ∷ (register, 8, 1) ∷ (register, 9, 0) ∷ [])
     ∷ case 17 17 0x6101_2002_2103_2205_2306_2407_2508_2609_00 ((0, 1) ∷ (1, 0) ∷ []) hlt 16 2 9 13 0 0 0 ((register, 2, 1) ∷ (register, 3, 1) ∷ (register, 5, 1) ∷ (register, 6, 0) ∷ (register, 7, 1) ∷ (register, 8, 0) ∷ (register, 9, 0) ∷ [])
     ∷ case 17 17 0x6101_2002_2103_2205_2306_2407_2508_2609_00 ((0, 1) ∷ (1, 2) ∷ []) hlt 16 0 9 13 0 0 0 ((register, 2, 1) ∷ (register, 3, 0) ∷ (register, 5, 0) ∷ (register, 6, 0) ∷ (register, 7, 1) ∷ (register, 8, 1) ∷ (register, 9, 1) ∷ [])

@@ -52,7 +52,7 @@ unfoldable pub after_m : StageM → Memory → StageW
 after_m bubble_m m = bubble_w
 after_m (in_m x) m = in_w (access x m)
 
--- "One core passes a word loaded in M straight to a store in E" (02, #106): val_a of x, with w behind M's access
+-- "One core passes a word loaded in M straight to a store in E" (02, #106): valA of x, with w behind M's access
 unfoldable pub handed_a : Core → StageW → Decoded → ℕ
 handed_a g bubble_w x = x.a
 handed_a g (in_w w) x = cond (takes_late g x.instruction && meets (loaded_target w.instruction) (source_a x.instruction)) w.word x.a
@@ -112,7 +112,7 @@ unfoldable pub wrong : Core → StageM → Bool
 wrong g bubble_m = false
 wrong g (in_m x) = mispredicted g x.instruction x.holds
 
--- "misprediction (j_xx in E, condition false)"; in the words of 02, #105, a jump "whose outcome differs from the prediction"
+-- "misprediction (jXX in E, condition false)"; in the words of 02, #105, a jump "whose outcome differs from the prediction"
 unfoldable pub mispredicts : Core → Piped → Bool
 mispredicts g p = wrong g (after_e (executing g p) p.pipeline.codes)
 

@@ -29,7 +29,7 @@ core01 = core_of as_in_01
 unfoldable pub guess : Core → Instruction → Bool
 guess g i = eqb i.function 0 || g.guesses i
 
--- "Prediction: call and j_xx go to C, others to the next address."
+-- "Prediction: call and jXX go to C, others to the next address."
 unfoldable pub predicted_next : Core → Instruction → ℕ
 predicted_next g i = cond (is jump i) (turned i (guess g i)) (straight i)
 
@@ -51,7 +51,7 @@ pushq = 10
 unfoldable pub takes_late : Core → Instruction → Bool
 takes_late g i = g.late && (is rmmovq i || is pushq i)
 
--- the source that is waited for beside source_b, "r_b, or rsp for pushq": 15 for none, where "it is only the stored r_a"
+-- the source that is waited for beside source_b, "rB, or rsp for pushq": 15 for none, where "it is only the stored rA"
 unfoldable pub awaited_a : Core → Instruction → ℕ
 awaited_a g i = cond (takes_late g i) 15 (source_a i)
 

@@ -25,7 +25,7 @@ unfoldable pub least_first : (k v : ℕ) → List ℕ
 least_first zero v = []
 least_first (suc k) v = v % 256 ∷ least_first k (v / 256)
 
--- the register byte r_a:r_b where there is one, F in place of the half that names no register
+-- the register byte rA:rB where there is one, F in place of the half that names no register
 unfoldable pub pair : RegisterByte → (ra rb : ℕ) → List ℕ
 pair y a b = cond (names_a y || names_b y) ((16 * half (names_a y) a + half (names_b y) b) ∷ []) []
 
@@ -33,7 +33,7 @@ pair y a b = cond (names_a y || names_b y) ((16 * half (names_a y) a + half (nam
 unfoldable pub tail : (size constant : ℕ) → List ℕ
 tail size v = cond (ltb 8 size) (least_first 8 v) []
 
--- "First byte is code and function; then, by code, a register byte r_a:r_b and an 8-byte constant C."
+-- "First byte is code and function; then, by code, a register byte rA:rB and an 8-byte constant C."
 unfoldable pub form : Fields → List ℕ
 form i =
     let row = row_of i.code in

@@ -32,7 +32,7 @@ fn register(which: u8, i: Instruction) -> u8
     }
 }
 
-// The register that val_a comes from, 15 for none.
+// The register that valA comes from, 15 for none.
 pub fn source_a(i: Instruction) -> u8
     ensures { result ≡ source_a i }
 {
@@ -44,7 +44,7 @@ pub fn source_a(i: Instruction) -> u8
     }
 }
 
-// The register that val_b comes from, 15 for none.
+// The register that valB comes from, 15 for none.
 pub fn source_b(i: Instruction) -> u8
     ensures { result ≡ source_b i }
 {
@@ -67,7 +67,7 @@ pub fn result_target(i: Instruction, holds: bool) -> u8
     }
 }
 
-// Where val_m goes.
+// Where valM goes.
 pub fn loaded_target(i: Instruction) -> u8
     ensures { result ≡ loaded_target i }
 {

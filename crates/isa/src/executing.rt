@@ -11,7 +11,7 @@ use machine::{
     Accessed, CALL, CMOV, Codes, Decoded, Executed, IADDQ, Instruction, JUMP, OPERATION, RET,
 };
 
-// The functions of OPq, and the conditions of cmov_xx and j_xx.
+// The functions of OPq, and the conditions of cmovXX and jXX.
 const ADD: u8 = 0;
 
 const SUBTRACT: u8 = 1;
@@ -34,7 +34,7 @@ const IF_GE: u8 = 5;
 
 const IF_G: u8 = 6;
 
-// r_b add, subtract, and, xor r_a.
+// rB add, subtract, and, xor rA.
 fn operated(function: u8, a: u64, b: u64) -> u64
     ensures { result ≡ operated_of function a b }
 {
@@ -123,7 +123,7 @@ fn result(x: Decoded) -> u64
     computed(computes_of(i.code), x)
 }
 
-// Cnd: the condition of cmov_xx and j_xx.
+// Cnd: the condition of cmovXX and jXX.
 fn outcome(i: Instruction, codes: Codes) -> bool
     ensures { result ≡ outcome_of i codes }
 {

@@ -9,12 +9,12 @@ use crate::numbers::{
 pub const SIZES: [u8; ROWS] = [
     1, // halt
     1, // nop
-    2, // cmov_xx
+    2, // cmovXX
     10, // irmovq
     10, // rmmovq
     10, // mrmovq
     2, // OPq
-    9, // j_xx
+    9, // jXX
     9, // call
     1, // ret
     2, // pushq
@@ -29,12 +29,12 @@ pub const SIZES: [u8; ROWS] = [
 pub const FUNCTIONS: [u8; ROWS] = [
     1, // halt
     1, // nop
-    7, // cmov_xx
+    7, // cmovXX
     1, // irmovq
     1, // rmmovq
     1, // mrmovq
     4, // OPq
-    7, // j_xx
+    7, // jXX
     1, // call
     1, // ret
     1, // pushq
@@ -49,12 +49,12 @@ pub const FUNCTIONS: [u8; ROWS] = [
 pub const BYTES: [u8; ROWS] = [
     NO_BYTE, // halt
     NO_BYTE, // nop
-    BOTH_NAMED, // cmov_xx
+    BOTH_NAMED, // cmovXX
     ONLY_B, // irmovq
     BOTH_NAMED, // rmmovq
     BOTH_NAMED, // mrmovq
     BOTH_NAMED, // OPq
-    NO_BYTE, // j_xx
+    NO_BYTE, // jXX
     NO_BYTE, // call
     NO_BYTE, // ret
     ONLY_A, // pushq
@@ -65,16 +65,16 @@ pub const BYTES: [u8; ROWS] = [
     NO_BYTE, // F
 ];
 
-// Where val_a comes from.
+// Where valA comes from.
 pub const A_FROM: [u8; ROWS] = [
     NO_REGISTER, // halt
     NO_REGISTER, // nop
-    IN_RA, // cmov_xx
+    IN_RA, // cmovXX
     NO_REGISTER, // irmovq
     IN_RA, // rmmovq
     NO_REGISTER, // mrmovq
     IN_RA, // OPq
-    NO_REGISTER, // j_xx
+    NO_REGISTER, // jXX
     NO_REGISTER, // call
     IN_RSP, // ret
     IN_RA, // pushq
@@ -85,16 +85,16 @@ pub const A_FROM: [u8; ROWS] = [
     NO_REGISTER, // F
 ];
 
-// Where val_b comes from.
+// Where valB comes from.
 pub const B_FROM: [u8; ROWS] = [
     NO_REGISTER, // halt
     NO_REGISTER, // nop
-    NO_REGISTER, // cmov_xx
+    NO_REGISTER, // cmovXX
     NO_REGISTER, // irmovq
     IN_RB, // rmmovq
     IN_RB, // mrmovq
     IN_RB, // OPq
-    NO_REGISTER, // j_xx
+    NO_REGISTER, // jXX
     IN_RSP, // call
     IN_RSP, // ret
     IN_RSP, // pushq
@@ -109,12 +109,12 @@ pub const B_FROM: [u8; ROWS] = [
 pub const COMPUTES: [u8; ROWS] = [
     NOTHING, // halt
     NOTHING, // nop
-    JUST_A, // cmov_xx
+    JUST_A, // cmovXX
     JUST_C, // irmovq
     B_PLUS_C, // rmmovq
     B_PLUS_C, // mrmovq
     B_OP_A, // OPq
-    NOTHING, // j_xx
+    NOTHING, // jXX
     B_LESS_8, // call
     B_PLUS_8, // ret
     B_LESS_8, // pushq
@@ -129,12 +129,12 @@ pub const COMPUTES: [u8; ROWS] = [
 pub const ACCESSES: [u8; ROWS] = [
     NO_ACCESS, // halt
     NO_ACCESS, // nop
-    NO_ACCESS, // cmov_xx
+    NO_ACCESS, // cmovXX
     NO_ACCESS, // irmovq
     STORES_A, // rmmovq
     LOADS_AT_E, // mrmovq
     NO_ACCESS, // OPq
-    NO_ACCESS, // j_xx
+    NO_ACCESS, // jXX
     STORES_NEXT, // call
     LOADS_AT_A, // ret
     STORES_A, // pushq
@@ -149,12 +149,12 @@ pub const ACCESSES: [u8; ROWS] = [
 pub const TARGETS: [u8; ROWS] = [
     NO_REGISTER, // halt
     NO_REGISTER, // nop
-    IN_RB, // cmov_xx
+    IN_RB, // cmovXX
     IN_RB, // irmovq
     NO_REGISTER, // rmmovq
     NO_REGISTER, // mrmovq
     IN_RB, // OPq
-    NO_REGISTER, // j_xx
+    NO_REGISTER, // jXX
     IN_RSP, // call
     IN_RSP, // ret
     IN_RSP, // pushq
@@ -165,16 +165,16 @@ pub const TARGETS: [u8; ROWS] = [
     NO_REGISTER, // F
 ];
 
-// Where val_m goes.
+// Where valM goes.
 pub const LOADED: [u8; ROWS] = [
     NO_REGISTER, // halt
     NO_REGISTER, // nop
-    NO_REGISTER, // cmov_xx
+    NO_REGISTER, // cmovXX
     NO_REGISTER, // irmovq
     NO_REGISTER, // rmmovq
     IN_RA, // mrmovq
     NO_REGISTER, // OPq
-    NO_REGISTER, // j_xx
+    NO_REGISTER, // jXX
     NO_REGISTER, // call
     NO_REGISTER, // ret
     NO_REGISTER, // pushq

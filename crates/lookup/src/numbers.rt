@@ -3,7 +3,7 @@
 // A row for each code that half a byte can hold.
 pub const ROWS: usize = 16;
 
-// The register byte: none, r_a r_b, F r_b, r_a F.
+// The register byte: none, rA rB, F rB, rA F.
 pub const NO_BYTE: u8 = 0;
 
 pub const BOTH_NAMED: u8 = 1;
@@ -21,7 +21,7 @@ pub const IN_RB: u8 = 2;
 
 pub const IN_RSP: u8 = 3;
 
-// What execute computes: nothing, val_b OP val_a, val_a, C, val_b + C, val_b - 8, val_b + 8.
+// What execute computes: nothing, valB OP valA, valA, C, valB + C, valB - 8, valB + 8.
 pub const NOTHING: u8 = 0;
 
 pub const B_OP_A: u8 = 1;
@@ -36,7 +36,7 @@ pub const B_LESS_8: u8 = 5;
 
 pub const B_PLUS_8: u8 = 6;
 
-// What the memory stage does: nothing, load at valE, load at val_a, store val_a, store the next address.
+// What the memory stage does: nothing, load at valE, load at valA, store valA, store the next address.
 pub const NO_ACCESS: u8 = 0;
 
 pub const LOADS_AT_E: u8 = 1;

@@ -56,7 +56,7 @@ half named x = cond named x 15
 unfoldable pub constant_in : List ℕ → ℕ → ℕ
 constant_in bytes size = cond (ltb 8 size) (number 8 bytes (size - 8)) 0
 
--- "First byte is code and function; then, by code, a register byte r_a:r_b and an 8-byte constant C."
+-- "First byte is code and function; then, by code, a register byte rA:rB and an 8-byte constant C."
 unfoldable pub parsed : ℕ → List ℕ → Instruction
 parsed a bytes =
     let code = get_or bytes 0 0 / 16 in

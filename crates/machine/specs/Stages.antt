@@ -20,7 +20,7 @@ register r_b i = i.rb
 register rsp i = 4
 
 -- DECODE
--- "Sources: cmov r_a; rmmovq, OPq r_a and r_b; mrmovq r_b; pushq r_a and rsp; popq, call, ret rsp; others none." Of iaddq "its source is r_b" (02, #101).
+-- "Sources: cmov rA; rmmovq, OPq rA and rB; mrmovq rB; pushq rA and rsp; popq, call, ret rsp; others none." Of iaddq "its source is rB" (02, #101).
 -- "An instruction with bad fetch status has no sources."
 unfoldable pub source_a : Instruction → ℕ
 source_a i = cond (is_bad i.status) 15 (register (row_of i.code).a i)
@@ -28,12 +28,12 @@ source_a i = cond (is_bad i.status) 15 (register (row_of i.code).a i)
 unfoldable pub source_b : Instruction → ℕ
 source_b i = cond (is_bad i.status) 15 (register (row_of i.code).b i)
 
--- val_a and val_b, where from is the value of a register
+-- valA and valB, where from is the value of a register
 unfoldable pub decode : Instruction → (ℕ → ℕ) → Decoded
 decode i from = record { instruction = i; a = from (source_a i); b = from (source_b i) }
 
 -- EXECUTE
--- "r_b becomes r_b add, subtract, and, xor r_a (functions 0 to 3); subtract is r_b minus r_a."
+-- "rB becomes rB add, subtract, and, xor rA (functions 0 to 3); subtract is rB minus rA."
 unfoldable pub operated : ℕ → ℕ → ℕ → ℕ
 operated function a b = get_or (sum b a ∷ difference b a ∷ bit_and b a ∷ bit_xor b a ∷ []) function 0
 
@@ -80,7 +80,7 @@ computed b_plus8 x = sum x.b 8
 unfoldable pub result : Decoded → ℕ
 result x = computed (row_of x.instruction.code).computes x
 
--- Cnd: of cmov_xx and j_xx the condition on the codes, of any other true
+-- Cnd: of cmovXX and jXX the condition on the codes, of any other true
 unfoldable pub outcome : Instruction → Codes → Bool
 outcome i c = cond (is cmov i || is jump i) (condition i.function c) true
 
@@ -108,7 +108,7 @@ loads i = loading (row_of i.code).accesses
 unfoldable pub stores : Instruction → Bool
 stores i = storing (row_of i.code).accesses
 
--- the access address: popq and ret load from the old rsp, which is val_a; any other access is at valE
+-- the access address: popq and ret load from the old rsp, which is valA; any other access is at valE
 unfoldable pub addressed : Accesses → Executed → ℕ
 addressed no_access x = x.result
 addressed loads_at_e x = x.result
@@ -119,7 +119,7 @@ addressed stores_next x = x.result
 unfoldable pub access_address : Executed → ℕ
 access_address x = addressed (row_of x.instruction.code).accesses x
 
--- the stored word: "call stores the next address"; rmmovq and pushq store val_a
+-- the stored word: "call stores the next address"; rmmovq and pushq store valA
 unfoldable pub stored : Accesses → Executed → ℕ
 stored no_access x = x.a
 stored loads_at_e x = x.a

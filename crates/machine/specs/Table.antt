@@ -1,9 +1,9 @@
 -- "Lengths are kept as one table of sixteen rows": a row has document 01's columns, and then document 003's stage table for that code
--- (halt and nop do nothing there, and cmov_xx is its rrmovq under a condition).
+-- (halt and nop do nothing there, and cmovXX is its rrmovq under a condition).
 use Rattle.std.specs.Prelude.{ℕ, ◌*◌, Bool, List, [], ◌∷◌, eqb, get_or}
 use Rattle.machine.specs.Types.{Instruction}
 
--- what the register byte is: there is none; r_a r_b; F r_b; r_a F, where F is a filler
+-- what the register byte is: there is none; rA rB; F rB; rA F, where F is a filler
 pub data RegisterByte : Type 0 where
   no_byte both_named only_b only_a : RegisterByte
 
@@ -11,20 +11,20 @@ pub data RegisterByte : Type 0 where
 pub data Which : Type 0 where
   none r_a r_b rsp : Which
 
--- what execute computes: nothing, val_b OP val_a, val_a, C, val_b + C, val_b - 8, val_b + 8
+-- what execute computes: nothing, valB OP valA, valA, C, valB + C, valB - 8, valB + 8
 pub data Computes : Type 0 where
   nothing b_op_a just_a just_c b_plus_c b_less8 b_plus8 : Computes
 
--- what sets the codes: nothing, val_b OP val_a, val_b + C as addq's sum does (02, #101: iaddq "sets codes when and as addq does")
+-- what sets the codes: nothing, valB OP valA, valB + C as addq's sum does (02, #101: iaddq "sets codes when and as addq does")
 pub data Sets : Type 0 where
   no_codes by_op by_sum : Sets
 
--- what the memory stage does: nothing, val_m ← [valE], val_m ← [val_a], [valE] ← val_a, [valE] ← valP
+-- what the memory stage does: nothing, valM ← [valE], valM ← [valA], [valE] ← valA, [valE] ← valP
 pub data Accesses : Type 0 where
   no_access loads_at_e loads_at_a stores_a stores_next : Accesses
 
--- the length, how many functions there are from 0 on, and the register byte; then where val_a and val_b come from (decode), what valE is
--- and what sets the codes (execute), the access (memory), and where valE and val_m go (write back)
+-- the length, how many functions there are from 0 on, and the register byte; then where valA and valB come from (decode), what valE is
+-- and what sets the codes (execute), the access (memory), and where valE and valM go (write back)
 pub record Row : Type 0 where
   pub size : ℕ
   pub functions : ℕ
@@ -50,12 +50,12 @@ table =
     -- size functions byte a b computes sets accesses target loaded
     row 1 1 no_byte none none nothing no_codes no_access none none  -- 0 halt
     ∷ row 1 1 no_byte none none nothing no_codes no_access none none  -- 1 nop
-    ∷ row 2 7 both_named r_a none just_a no_codes no_access r_b none  -- 2 cmov_xx
+    ∷ row 2 7 both_named r_a none just_a no_codes no_access r_b none  -- 2 cmovXX
     ∷ row 10 1 only_b none none just_c no_codes no_access r_b none  -- 3 irmovq
     ∷ row 10 1 both_named r_a r_b b_plus_c no_codes stores_a none none  -- 4 rmmovq
     ∷ row 10 1 both_named none r_b b_plus_c no_codes loads_at_e none r_a  -- 5 mrmovq
     ∷ row 2 4 both_named r_a r_b b_op_a by_op no_access r_b none  -- 6 OPq
-    ∷ row 9 7 no_byte none none nothing no_codes no_access none none  -- 7 j_xx
+    ∷ row 9 7 no_byte none none nothing no_codes no_access none none  -- 7 jXX
     ∷ row 9 1 no_byte none rsp b_less8 no_codes stores_next rsp none  -- 8 call
     ∷ row 1 1 no_byte rsp rsp b_plus8 no_codes loads_at_a rsp none  -- 9 ret
     ∷ row 2 1 only_a r_a rsp b_less8 no_codes stores_a rsp none  -- A pushq

@@ -1,5 +1,5 @@
 -- The columns of document 003's stage tables, proved of the plain step: what an instruction changes, to what, and nothing else.
--- Names as there: M₁, M₈, R, PC, CC, icode, ifun, r_a, r_b, val_e, val_m. What fetch-aok says is put in: r_a:r_b is M₁[PC+1], val_c is M₈[PC+2] or M₈[PC+1].
+-- Names as there: M₁, M₈, R, PC, CC, icode, ifun, rA, rB, val_e, valM. What fetch-aok says is put in: rA:rB is M₁[PC+1], valC is M₈[PC+2] or M₈[PC+1].
 use Rattle.std.specs.Prelude.{ℕ, ◌+◌, ◌/◌, ◌%◌, ◌<◌, ◌≤◌, ◌≡◌, refl, Bool, true, false, cond, not, ◌&&◌, ◌||◌, [], ◌∷◌, ◌++◌}
 use Rattle.std.proofs.Common.{ap, ◌∙◌, sym, set-set}
 use Rattle.machine.specs.Types.{is_bad}
@@ -124,21 +124,21 @@ unfolding fetched column_of
 column s code h = step_of_lem s _ h.0 (fetch_aok s.memory (PC s) h.1 ∙ ap (aok_at s.memory (PC s)) h.2) refl
 
 -- THE COLUMNS
--- OPq r_a, r_b: val_e ← R[r_b] OP R[r_a]; set CC; R[r_b] ← val_e; PC ← PC+2
+-- OPq rA, rB: val_e ← R[rB] OP R[rA]; set CC; R[rB] ← val_e; PC ← PC+2
 pub opq : (s : Plain) → At s 6
     → let val_e = operated (ifun s) (R s (r_a s)) (R s (r_b s)) in
     step s ≡ after s (gets s (r_b s) val_e) (operated_codes (ifun s) (R s (r_a s)) (R s (r_b s))) s.memory (sum (PC s) 2) aok
 unfolding column_of
 opq s h = column s 6 h
 
--- iaddq V, r_b, which 003 does not have (02, #101): val_e ← R[r_b] + val_c; set CC as addq does; R[r_b] ← val_e; PC ← PC+10
+-- iaddq V, rB, which 003 does not have (02, #101): val_e ← R[rB] + valC; set CC as addq does; R[rB] ← val_e; PC ← PC+10
 pub iaddq : (s : Plain) → At s 12
     → let val_c = M₈ s.memory (PC s + 2) in
     step s ≡ after s (gets s (r_b s) (sum (R s (r_b s)) val_c)) (operated_codes 0 val_c (R s (r_b s))) s.memory (sum (PC s) 10) aok
 unfolding column_of
 iaddq s h = column s 12 h
 
--- cmov_xx r_a, r_b: R[r_b] ← R[r_a], if Cond(CC, ifun); PC ← PC+2
+-- cmovXX rA, rB: R[rB] ← R[rA], if Cond(CC, ifun); PC ← PC+2
 pub cmov_xx : (s : Plain) → At s 2
     → step s ≡ after s (cond (condition (ifun s) (CC s)) (gets s (r_b s) (R s (r_a s))) s.machine.registers) (CC s) s.memory (sum (PC s) 2) aok
 unfolding column_of
@@ -149,58 +149,58 @@ cmov_xx s h = column s 2 h ∙ go (condition (ifun s) (CC s))
     go true = refl
     go false = refl
 
--- rrmovq r_a, r_b, which is cmov_xx with function 0: R[r_b] ← R[r_a]; PC ← PC+2
+-- rrmovq rA, rB, which is cmovXX with function 0: R[rB] ← R[rA]; PC ← PC+2
 pub rrmovq : (s : Plain) → At s 2 → ifun s ≡ 0 → step s ≡ after s (gets s (r_b s) (R s (r_a s))) (CC s) s.memory (sum (PC s) 2) aok
 unfolding condition
 rrmovq s h e = cmov_xx s h ∙ rw e
 
--- irmovq V, r_b: R[r_b] ← val_c; PC ← PC+10
+-- irmovq V, rB: R[rB] ← valC; PC ← PC+10
 pub irmovq : (s : Plain) → At s 3 → step s ≡ after s (gets s (r_b s) (M₈ s.memory (PC s + 2))) (CC s) s.memory (sum (PC s) 10) aok
 unfolding column_of
 irmovq s h = column s 3 h
 
--- rmmovq r_a, D(r_b): val_e ← R[r_b] + val_c; M₈[val_e] ← R[r_a]; PC ← PC+10
+-- rmmovq rA, D(rB): val_e ← R[rB] + valC; M₈[val_e] ← R[rA]; PC ← PC+10
 pub rmmovq : (s : Plain) → At s 4
     → let val_e = sum (R s (r_b s)) (M₈ s.memory (PC s + 2)) in
     step s ≡ accessing s val_e (after s s.machine.registers (CC s) (store s.memory val_e (R s (r_a s))) (sum (PC s) 10) aok)
 unfolding column_of
 rmmovq s h = column s 4 h
 
--- mrmovq D(r_b), r_a: val_e ← R[r_b] + val_c; R[r_a] ← M₈[val_e]; PC ← PC+10
+-- mrmovq D(rB), rA: val_e ← R[rB] + valC; R[rA] ← M₈[val_e]; PC ← PC+10
 pub mrmovq : (s : Plain) → At s 5
     → let val_e = sum (R s (r_b s)) (M₈ s.memory (PC s + 2)) in
     step s ≡ accessing s val_e (after s (gets s (r_a s) (load s.memory val_e)) (CC s) s.memory (sum (PC s) 10) aok)
 unfolding column_of
 mrmovq s h = column s 5 h
 
--- pushq r_a: val_e ← R[rsp] - 8; M₈[val_e] ← R[r_a]; R[rsp] ← val_e; PC ← PC+2
+-- pushq rA: val_e ← R[rsp] - 8; M₈[val_e] ← R[rA]; R[rsp] ← val_e; PC ← PC+2
 pub pushq : (s : Plain) → At s 10
     → let val_e = difference (R s rsp) 8 in
     step s ≡ accessing s val_e (after s (gets s rsp val_e) (CC s) (store s.memory val_e (R s (r_a s))) (sum (PC s) 2) aok)
 unfolding column_of
 pushq s h = column s 10 h
 
--- popq r_a: val_m ← M₈[R[rsp]]; R[rsp] ← R[rsp] + 8; then R[r_a] ← val_m; PC ← PC+2
+-- popq rA: valM ← M₈[R[rsp]]; R[rsp] ← R[rsp] + 8; then R[rA] ← valM; PC ← PC+2
 pub popq : (s : Plain) → At s 11
     → let val_m = load s.memory (R s rsp) in
     step s ≡ accessing s (R s rsp) (after s (written (gets s rsp (sum (R s rsp) 8)) (r_a s) val_m) (CC s) s.memory (sum (PC s) 2) aok)
 unfolding column_of
 popq s h = column s 11 h
 
--- j_xx Dest: PC ← Cond(CC, ifun) ? val_c : PC+9
+-- jXX Dest: PC ← Cond(CC, ifun) ? valC : PC+9
 pub j_xx : (s : Plain) → At s 7
     → step s ≡ after s s.machine.registers (CC s) s.memory (cond (condition (ifun s) (CC s)) (M₈ s.memory (PC s + 1)) (sum (PC s) 9)) aok
 unfolding column_of
 j_xx s h = column s 7 h
 
--- call Dest: val_e ← R[rsp] - 8; M₈[val_e] ← PC+9; R[rsp] ← val_e; PC ← val_c
+-- call Dest: val_e ← R[rsp] - 8; M₈[val_e] ← PC+9; R[rsp] ← val_e; PC ← valC
 pub call : (s : Plain) → At s 8
     → let val_e = difference (R s rsp) 8 in
     step s ≡ accessing s val_e (after s (gets s rsp val_e) (CC s) (store s.memory val_e (sum (PC s) 9)) (M₈ s.memory (PC s + 1)) aok)
 unfolding column_of
 call s h = column s 8 h
 
--- ret: val_m ← M₈[R[rsp]]; R[rsp] ← R[rsp] + 8; PC ← val_m
+-- ret: valM ← M₈[R[rsp]]; R[rsp] ← R[rsp] + 8; PC ← valM
 pub ret : (s : Plain) → At s 9
     → let val_m = load s.memory (R s rsp) in
     step s ≡ accessing s (R s rsp) (after s (gets s rsp (sum (R s rsp) 8)) (CC s) s.memory val_m aok)

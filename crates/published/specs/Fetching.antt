@@ -24,7 +24,7 @@ M₈ m a = number 8 m.bytes a
 abbrev constant_at : Memory → ℕ → ℕ → ℕ
 constant_at m a n = cond (ltb 8 n) (M₈ m (a + (n - 8))) 0
 
--- the instruction at a with this code: icode:ifun ← M₁[PC], r_a:r_b ← M₁[PC+1], val_c ← its last eight bytes, valP ← PC + its length
+-- the instruction at a with this code: icode:ifun ← M₁[PC], rA:rB ← M₁[PC+1], valC ← its last eight bytes, valP ← PC + its length
 unfoldable pub aok_at : Memory → ℕ → ℕ → Instruction
 aok_at m a code =
     let row = row_of code in

@@ -77,7 +77,7 @@ rows_of_clock =
     ∷ controls "R10.1 no load-use: the load is in M" (D (operation 0 3 0 1) ∷ M (mrmovq 0 1 3 2) 0 0 true ∷ []) 31 30 1 bubble
     ∷ controls "R10.1 no load-use: register 15 matches nothing" (D (cmov 0 15 0 1) ∷ E (mrmovq 0 1 15 2) 0 0 ∷ []) 31 30 1 2
     ∷ controls "R10.1 no load-use: a bad fetch has no sources" (D (fetched_as ins (operation 0 3 0 1)) ∷ E (mrmovq 0 1 3 2) 0 0 ∷ []) 31 30 1 2
-    -- "misprediction (j_xx in E, condition false): bubble into D and E"
+    -- "misprediction (jXX in E, condition false): bubble into D and E"
     ∷ controls "R10.2 misprediction: bubble into D and E" (D (nop 1) ∷ E (jump 4 40 2) 0 0 ∷ []) 31 bubble bubble 2
     ∷ controls "R10.2 no misprediction: condition true" (D (nop 1) ∷ E (jump 3 40 2) 0 0 ∷ []) 31 30 1 2
     ∷ controls "R10.2 no misprediction: a false cmov" (D (nop 1) ∷ E (cmov 4 0 1 2) 0 0 ∷ []) 31 30 1 2

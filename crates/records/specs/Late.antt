@@ -23,7 +23,7 @@ charged s c i j n = charges s (c ∷ keeps i true ∷ []) j aok n 20 20
 
 unfoldable pub rows_of_late : List Row
 rows_of_late =
-    -- "rmmovq or pushq waits only if the loaded register is its address source (r_b, or rsp for pushq)"
+    -- "rmmovq or pushq waits only if the loaded register is its address source (rB, or rsp for pushq)"
     waits "R10.1 not late: rmmovq behind a load of its rA" (rule 0) (rmmovq 3 0 1 1) (mrmovq 0 1 3 2)
     ∷ goes "R10.1 late: rmmovq behind a load of its rA" (late 0) (rmmovq 3 0 1 1) (mrmovq 0 1 3 2)
     ∷ goes "R10.1 late, rule 1: rmmovq behind popq of its rA" (late 1) (rmmovq 3 0 1 1) (popq 3 2)
@@ -54,7 +54,7 @@ rows_of_late =
     ∷ handed "R8.8 late: OPq takes no word in E" (late 0) (operation 0 3 1 1) (mrmovq 0 1 3 2) 9 49
     ∷ handed "R8.8 late: a move takes no word in E" (late 0) (cmov 0 3 1 1) (mrmovq 0 1 3 2) 9 9
     ∷ clocked "R8.8 late: nothing in M" (late 0 ∷ E (rmmovq 3 5 1 1) 9 40 ∷ []) (image 16 1 0x00) 1 ((carried_a, 9) ∷ (result, 45) ∷ (codes_now, 4) ∷ [])
-    -- "if it is only the stored r_a there is no charge", and else "demand 3's charge of 1 reads so"
+    -- "if it is only the stored rA there is no charge", and else "demand 3's charge of 1 reads so"
     ∷ charged "R11.5 not late: 1 behind a load of its rA" (rule 0) (mrmovq 0 1 3 0) (rmmovq 3 0 1 7) 21
     ∷ charged "R11.5 late: 0 behind a load of its rA" (late 0) (mrmovq 0 1 3 0) (rmmovq 3 0 1 7) 20
     ∷ charged "R11.5 late, rule 2: 0 for pushq behind a load of its rA" (late 2) (popq 3 0) (pushq 3 7) 20

@@ -132,7 +132,7 @@ next i = i.next
 abbrev pub fault : Instruction → ℕ
 fault i = fault_number i.fault
 
--- what it carries: in E both values; in M val_a, the result and whether its condition holds; in W the result, the word and the status; and
+-- what it carries: in E both values; in M valA, the result and whether its condition holds; in W the result, the word and the status; and
 -- whether the condition of the kept one held
 abbrev pub val_a : PipeAnswer → ℕ
 val_a = in_stage_e (λ x. x.a)

@@ -47,7 +47,7 @@ conditions s c = numbers s (held 0 ∷ held 1 ∷ held 2 ∷ held 3 ∷ held 4 �
 abbrev executes : String → Instruction → (a b result : ℕ) → Row
 executes s i a b r = clocked s (E i a b ∷ []) halts 1 ((result, r) ∷ (carried_a, a) ∷ (codes_now, 4) ∷ [])
 
--- an instruction in M with val_a and its result, the word that it loads and its status; the word at 8 is 0x0807060504030201
+-- an instruction in M with valA and its result, the word that it loads and its status; the word at 8 is 0x0807060504030201
 abbrev loads : String → Instruction → (a result : ℕ) → (word status : ℕ) → Row
 loads s i a r v t = clocked s (M i a r true ∷ []) (image 16 16 0x0000000000000000_0102030405060708) 1 ((loaded, v) ∷ (status_w, t) ∷ (result_w, r) ∷ [])
 
@@ -58,7 +58,7 @@ stores s i a r b v t =
 
 unfoldable pub rows_of_sources : List Row
 rows_of_sources =
-    -- "Sources: cmov r_a; rmmovq, OPq r_a and r_b; mrmovq r_b; pushq r_a and rsp; popq, call, ret rsp; others none."
+    -- "Sources: cmov rA; rmmovq, OPq rA and rB; mrmovq rB; pushq rA and rsp; popq, call, ret rsp; others none."
     decodes "R9.1 Sources: cmov rA" (cmov 0 2 3 0) 102 0
     ∷ decodes "R9.1 Sources: rmmovq rA and rB" (rmmovq 2 0 3 0) 102 103
     ∷ decodes "R9.1 Sources: OPq rA and rB" (operation 0 2 3 0) 102 103
@@ -103,7 +103,7 @@ rows_of_sources =
 
 unfoldable pub rows_of_results : List Row
 rows_of_results =
-    -- "OPq: r_b becomes r_b add, subtract, and, xor r_a"; "OF: exactly when the true signed result lies outside -2^63 to 2^63-1; else 0"
+    -- "OPq: rB becomes rB add, subtract, and, xor rA"; "OF: exactly when the true signed result lies outside -2^63 to 2^63-1; else 0"
     operates "R6.4 add: 2^63-2 and 1 is inside" 0 1 (2 ^ 63 - 2) (2 ^ 63 - 1) 0
     ∷ operates "R6.4 add: 2^63-1 and 1 is outside" 0 1 (2 ^ 63 - 1) (2 ^ 63) 3
     ∷ operates "R6.4 add: -2^63+1 and -1 is inside" 0 (2 ^ 64 - 1) (2 ^ 63 + 1) (2 ^ 63) 2
@@ -122,7 +122,7 @@ rows_of_results =
     ∷ operates "R6.1 and: bit by bit" 2 6 3 2 0
     ∷ operates "R6.4 xor: OF 0" 3 (2 ^ 63) (2 ^ 63) 0 4
     ∷ operates "R6.1 xor: bit by bit" 3 6 3 5 0
-    -- iaddq "adds the constant to r_b and sets codes when and as addq does", at both ends of the constant
+    -- iaddq "adds the constant to rB and sets codes when and as addq does", at both ends of the constant
     ∷ adds "R6.6 iaddq: rB + C" 5 7 12 0
     ∷ adds "R6.6 iaddq 2^63-1: 0 is inside" (2 ^ 63 - 1) 0 (2 ^ 63 - 1) 0
     ∷ adds "R6.6 iaddq 2^63-1: 1 is outside" (2 ^ 63 - 1) 1 (2 ^ 63) 3

@@ -13,7 +13,7 @@ use isa::decoding::{loaded_target, source_a, write};
 use isa::executing::{execute, new_codes};
 use machine::{Codes, Decoded, REGISTERS, Window};
 
-// val_a of E's instruction, or for a store the word that M loads, where that comes late.
+// valA of E's instruction, or for a store the word that M loads, where that comes late.
 fn handed_a(settings: Settings, w: StageW, x: Decoded) -> u64
     ensures { result ≡ handed_a (core_of settings) w x }
 {

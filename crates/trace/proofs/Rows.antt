@@ -71,7 +71,7 @@ pub kinds : (judged_as no_window patching "1\t0\t5\t-\t0\n2\t10\t6\t-\t0\n3\t11\
 unfolding judged_as patching
 kinds = (refl, refl, refl)
 
--- irmovq $40, %rsp; pushq %rsp; popq %rbx; call 24; at 23 halt; at 24 ret: rsp is the target of pushq, call and ret, r_a that of popq, and the charge behind
+-- irmovq $40, %rsp; pushq %rsp; popq %rbx; call 24; at 23 halt; at 24 ret: rsp is the target of pushq, call and ret, rA that of popq, and the charge behind
 -- ret is 3
 pub stacked : List ℕ
 stacked = 0x30 ∷ 0xf4 ∷ 40 ∷ replicate 7 0 ++ 0xa0 ∷ 0x4f ∷ 0xb0 ∷ 0x3f ∷ 0x80 ∷ 24 ∷ replicate 7 0 ++ 0 ∷ 0x90 ∷ replicate 23 0

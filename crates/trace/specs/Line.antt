@@ -8,7 +8,7 @@ use Rattle.text.specs.Decimal.{decimal}
 use Rattle.report_lines.specs.Lines.{line}
 use Rattle.register_lines.specs.Registers.{register_name}
 
--- "For popq the target is r_a. For pushq, call and ret it is rsp; a false cmov, a stopping instruction and any other without a target" has
+-- "For popq the target is rA. For pushq, call and ret it is rsp; a false cmov, a stopping instruction and any other without a target" has
 -- none, 15: the loaded word's target, where there is one, and else the result's
 unfoldable pub target_of : Accessed → ℕ
 target_of w =

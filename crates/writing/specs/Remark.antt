@@ -39,12 +39,12 @@ unfoldable pub operands_of : List Operands
 operands_of =
     nothing  -- halt
     ∷ nothing  -- nop
-    ∷ pair  -- cmov_xx
+    ∷ pair  -- cmovXX
     ∷ immediate  -- irmovq
     ∷ store  -- rmmovq
     ∷ load  -- mrmovq
     ∷ pair  -- OPq
-    ∷ target  -- j_xx
+    ∷ target  -- jXX
     ∷ target  -- call
     ∷ nothing  -- ret
     ∷ single  -- pushq

@@ -73,7 +73,7 @@ fn put_load(buffer: &mut [u8], at: usize, ra: u8, rb: u8, constant: u64) -> usiz
     put_then_register(buffer, second, b"), ", ra)
 }
 
-// What stands behind the name, by code: nothing, r_a and r_b, C and r_b, r_a to memory, memory to r_a, C, r_a.
+// What stands behind the name, by code: nothing, rA and rB, C and rB, rA to memory, memory to rA, C, rA.
 const SHAPES: [u8; 13] = [0, 0, 1, 2, 3, 4, 1, 5, 5, 0, 6, 6, 2];
 
 fn put_operands(buffer: &mut [u8], at: usize, code: u8, ra: u8, rb: u8, constant: u64) -> usize
