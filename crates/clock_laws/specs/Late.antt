@@ -1,5 +1,5 @@
 -- What is handed to a store in E sets no codes.
-use Rattle.std.specs.Prelude.{◌≡◌, refl, Bool, true, false, ◌&&◌, ◌||◌}
+use Rattle.std.specs.Prelude.{◌≡◌, refl, Bool, true, false, ◌||◌}
 use Rattle.std.proofs.Common.{sym, true≢false, eqb-true}
 use Rattle.machine.specs.declared.Codes.{Codes}
 use Rattle.machine.specs.declared.Decoded.{Decoded}

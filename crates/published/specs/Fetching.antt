@@ -1,5 +1,5 @@
 -- The fetch row of the columns: what an instruction that is fetched with AOK is, by the bytes from the program address on.
-use Rattle.std.specs.Prelude.{ℕ, zero, suc, min, ◌+◌, ◌-◌, ◌/◌, ◌%◌, ◌<◌, ◌≤◌, ◌≡◌, Bool, true, false, cond, ◌||◌, [], ◌∷◌, ltb, leb, eqb, length, take, drop}
+use Rattle.std.specs.Prelude.{ℕ, zero, suc, min, ◌+◌, ◌-◌, ◌/◌, ◌%◌, ◌<◌, ◌≤◌, ◌≡◌, Bool, true, false, cond, ◌||◌, ltb, leb, eqb, length, take, drop}
 use Rattle.std.proofs.Math.Path.{refl, ap}
 use Rattle.std.proofs.Common.{sym, ◌∙◌, add-zero, add_assoc, lt_of_not-le, arith, length-take, length-drop, get_or-take, get_or-drop}
 use Rattle.std.proofs.Math.Dec.{T, ltb→lt}

@@ -12,7 +12,7 @@ use Rattle.clocked.specs.PipeRuns.{pipe_started, pipe_refusal, pipe_run_unlogged
 use Rattle.records.specs.Names.{Instruction, no_window, Machine, Status, aok, hlt, adr, ins}
 use Rattle.records.specs.Given.{Change, rule, image, filled, empty, given, coded, fresh, with, stopped, counts, keeps, F, D, E, M, W, nop, cmov, operation, jump}
 use Rattle.records.specs.Given.{popq, iaddq, unknown, fetched_as, instruction}
-use Rattle.records.specs.Looks.{Row, answers, numbers, ran, performed, refusal, status, last, retired, cycles, predicted, d, address}
+use Rattle.records.specs.Looks.{Row, answers, numbers, ran, performed, refusal, retired, cycles, predicted, d, address}
 use Rattle.records.specs.Looks.{address_log, cycle_log, plain_refusal, plain_register, plain_codes, plain_address, plain_status, plain_last}
 use Rattle.records.specs.Looks.{plain_count, plain_log}
 

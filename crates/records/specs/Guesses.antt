@@ -3,7 +3,7 @@ use Rattle.std.specs.Prelude.{ℕ, true, false, List, [], ◌∷◌}
 use Prim.Native.String.{String}
 use Rattle.records.specs.Names.{aok}
 use Rattle.records.specs.Given.{image, rule, keeps, D, E, M, nop, jump}
-use Rattle.records.specs.Looks.{Row, clocked, predicted, address, bubble}
+use Rattle.records.specs.Looks.{Row, clocked, predicted, bubble}
 use Rattle.records.specs.Clocks.{fetches_from, controls, charges}
 
 -- by that rule, the address predicted behind the nine bytes of a jump fetched at 0

@@ -1,5 +1,4 @@
--- A refusal by `refuses`; else what was let in is run and written back, by `replays`. A `let` names the record of facts behind a call by its type, for
--- which `search` finds the place.
+-- A refusal by `refuses`; else what was let in is run and written back, by `replays`.
 use Rattle.clocked.specs.Prediction.{as_in_01}
 use Rattle.replay_ends.specs.Allowed.{allowed}
 use Rattle.replay_ends.specs.Ends.{result_words}

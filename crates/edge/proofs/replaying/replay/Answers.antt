@@ -1,5 +1,4 @@
--- The run is that of the definition (`Ways` `runs`), and the registers go back. A `let` names the record of facts behind a call by its type, for which
--- `search` finds the place.
+-- The run is that of the definition (`Ways` `runs`), and the registers go back.
 use Rattle.edge.proofs.Ways.{runs}
 use Rattle.edge.proofs.replaying.replay.Goals as goal
 
