@@ -69,18 +69,23 @@ checking() {
     return "$status"
 }
 
+# kept FROM TO: a copy, made only where it would be another file, so that what is built of it is not built again
+kept() {
+    cmp -s "$1" "$2" || cp "$1" "$2"
+}
+
 # archive NAME CRATE: target/staticlib/libNAME.a of a static library as it stands, made again only where the crate is another
 archive() {
-    mkdir -p target/staticlib
+    mkdir -p target/staticlib || return
     (cd "crates/$2" && rt lib) >>"$log" 2>&1 || { tail -n 40 "$log"; return 1; }
-    cp -p "crates/$2/out/lib$2.a" "target/staticlib/lib$1.a"
+    kept "crates/$2/out/lib$2.a" "target/staticlib/lib$1.a"
 }
 
 # program NAME: target/bin/NAME; a run without input is how rt builds one
 program() {
-    mkdir -p target/bin
+    mkdir -p target/bin || return
     (cd "crates/$1" && rt run </dev/null) >>"$log" 2>&1 || { tail -n 40 "$log"; return 1; }
-    cp -p "crates/$1/out/$1" "target/bin/$1"
+    kept "crates/$1/out/$1" "target/bin/$1"
 }
 
 programs() {

@@ -4,7 +4,7 @@ use crate::second::encoding::Asked;
 use crate::second::replay::{Chosen, FULL_BYTES, RESULT_BYTES};
 
 // Nothing checks these declarations against the Rattle source: they are written
-// after the functions of crates/edge/src/ by hand, and the two change together.
+// after the functions of crates/edge_c/src/ by hand, and the two change together.
 // A slice passes as its pointer and then its length.
 extern "C" {
     fn y86_replay(

@@ -1,4 +1,4 @@
-// A day's samples against the filed peak (#114), exported.
+// A day's samples against the filed peak (#114), for the host edge.
 
 #![tactic(auto)]
 

@@ -215,7 +215,7 @@ patched_same =
     (no_part_lem core01 t (lent (patching 0x00)) refl d 3 refl (λ o. absurd (true≢false o))).1
 
 -- THE EDITS OF THE STATEMENT (must-fail/), each false and not only unproved: by two images that differ only where it lets them
--- no_premise is the-premise-is-needed. memories_equal: the byte at 16 still differs
+-- no_premise is `the_premise_is_needed`. memories_equal: the byte at 16 still differs
 pub memories_differ : (steps (plain_from (from 0 (guessed 0x10))) 2).memory ≡ (steps (plain_from (from 0 (guessed 0x00))) 2).memory → ⊥
 unfolding figures guessed
 memories_differ e =

@@ -1,5 +1,5 @@
 -- The columns of document 003's stage tables, proved of the plain step: what an instruction changes, to what, and nothing else.
--- Names as there: M₁, M₈, R, PC, CC, icode, ifun, rA, rB, val_e, valM. What fetch-aok says is put in: rA:rB is M₁[PC+1], valC is M₈[PC+2] or M₈[PC+1].
+-- Names as there: M₁, M₈, R, PC, CC, icode, ifun, rA, rB, valE, valM. What `fetch_aok` says is put in: rA:rB is M₁[PC+1], valC is M₈[PC+2] or M₈[PC+1].
 use Rattle.std.specs.Prelude.{ℕ, ◌+◌, ◌/◌, ◌%◌, ◌<◌, ◌≤◌, ◌≡◌, refl, Bool, true, false, cond, not, ◌&&◌, ◌||◌, [], ◌∷◌, ◌++◌}
 use Rattle.std.proofs.Common.{ap, ◌∙◌, sym, set-set}
 use Rattle.machine.specs.Types.{is_bad}
@@ -124,14 +124,14 @@ unfolding fetched column_of
 column s code h = step_of_lem s _ h.0 (fetch_aok s.memory (PC s) h.1 ∙ ap (aok_at s.memory (PC s)) h.2) refl
 
 -- THE COLUMNS
--- OPq rA, rB: val_e ← R[rB] OP R[rA]; set CC; R[rB] ← val_e; PC ← PC+2
+-- OPq rA, rB: valE ← R[rB] OP R[rA]; set CC; R[rB] ← valE; PC ← PC+2
 pub opq : (s : Plain) → At s 6
     → let val_e = operated (ifun s) (R s (r_a s)) (R s (r_b s)) in
     step s ≡ after s (gets s (r_b s) val_e) (operated_codes (ifun s) (R s (r_a s)) (R s (r_b s))) s.memory (sum (PC s) 2) aok
 unfolding column_of
 opq s h = column s 6 h
 
--- iaddq V, rB, which 003 does not have (02, #101): val_e ← R[rB] + valC; set CC as addq does; R[rB] ← val_e; PC ← PC+10
+-- iaddq V, rB, which 003 does not have (02, #101): valE ← R[rB] + valC; set CC as addq does; R[rB] ← valE; PC ← PC+10
 pub iaddq : (s : Plain) → At s 12
     → let val_c = M₈ s.memory (PC s + 2) in
     step s ≡ after s (gets s (r_b s) (sum (R s (r_b s)) val_c)) (operated_codes 0 val_c (R s (r_b s))) s.memory (sum (PC s) 10) aok
@@ -159,21 +159,21 @@ pub irmovq : (s : Plain) → At s 3 → step s ≡ after s (gets s (r_b s) (M₈
 unfolding column_of
 irmovq s h = column s 3 h
 
--- rmmovq rA, D(rB): val_e ← R[rB] + valC; M₈[val_e] ← R[rA]; PC ← PC+10
+-- rmmovq rA, D(rB): valE ← R[rB] + valC; M₈[valE] ← R[rA]; PC ← PC+10
 pub rmmovq : (s : Plain) → At s 4
     → let val_e = sum (R s (r_b s)) (M₈ s.memory (PC s + 2)) in
     step s ≡ accessing s val_e (after s s.machine.registers (CC s) (store s.memory val_e (R s (r_a s))) (sum (PC s) 10) aok)
 unfolding column_of
 rmmovq s h = column s 4 h
 
--- mrmovq D(rB), rA: val_e ← R[rB] + valC; R[rA] ← M₈[val_e]; PC ← PC+10
+-- mrmovq D(rB), rA: valE ← R[rB] + valC; R[rA] ← M₈[valE]; PC ← PC+10
 pub mrmovq : (s : Plain) → At s 5
     → let val_e = sum (R s (r_b s)) (M₈ s.memory (PC s + 2)) in
     step s ≡ accessing s val_e (after s (gets s (r_a s) (load s.memory val_e)) (CC s) s.memory (sum (PC s) 10) aok)
 unfolding column_of
 mrmovq s h = column s 5 h
 
--- pushq rA: val_e ← R[rsp] - 8; M₈[val_e] ← R[rA]; R[rsp] ← val_e; PC ← PC+2
+-- pushq rA: valE ← R[rsp] - 8; M₈[valE] ← R[rA]; R[rsp] ← valE; PC ← PC+2
 pub pushq : (s : Plain) → At s 10
     → let val_e = difference (R s rsp) 8 in
     step s ≡ accessing s val_e (after s (gets s rsp val_e) (CC s) (store s.memory val_e (R s (r_a s))) (sum (PC s) 2) aok)
@@ -193,7 +193,7 @@ pub j_xx : (s : Plain) → At s 7
 unfolding column_of
 j_xx s h = column s 7 h
 
--- call Dest: val_e ← R[rsp] - 8; M₈[val_e] ← PC+9; R[rsp] ← val_e; PC ← valC
+-- call Dest: valE ← R[rsp] - 8; M₈[valE] ← PC+9; R[rsp] ← valE; PC ← valC
 pub call : (s : Plain) → At s 8
     → let val_e = difference (R s rsp) 8 in
     step s ≡ accessing s val_e (after s (gets s rsp val_e) (CC s) (store s.memory val_e (sum (PC s) 9)) (M₈ s.memory (PC s + 1)) aok)

@@ -30,7 +30,7 @@ mnemonics =
 unfoldable pub mnemonic : (code function : ℕ) → Text
 mnemonic code function = bytes (get_or (get_or mnemonics code []) function "")
 
--- what stands behind the name: nothing; `r_a, r_b`; `$C, r_b`; `r_a, C(r_b)`; `C(r_b), r_a`; `C`; `r_a`
+-- what stands behind the name: nothing; `rA, rB`; `$C, rB`; `rA, C(rB)`; `C(rB), rA`; `C`; `rA`
 pub data Operands : Type 0 where
   nothing pair immediate store load target single : Operands
 

@@ -1,4 +1,4 @@
--- The tests in the order of their numbers: one law of `Ways` for each way out. The `let`s name the record of facts behind each test that failed.
+-- The tests in the order of their numbers: one law of `Ways` for each way out.
 use Rattle.replay_ends.proofs.Ways.{refused_1, refused_2, refused_3, refused_4, refused_5, refused_6, refused_0}
 use borrow.Author.Rules.{rules}
 use Rattle.replay_ends.proofs.refusal.Goals as goal

@@ -4,14 +4,12 @@ use native.Mathlib.Omega.{arith}
 use Rattle.writing.proofs.Naming.{cut_out, word_short, word_put}
 use Rattle.writing.proofs.words.put_word.Goals as goal
 
--- src/words.rt:27:5
 pub put_text-requires : goal.put_text-requires
 unfolding bytes
 put_text-requires c =
     let e : c.part_before.result.now ≡ cut_out c.args.k = c.part_before.ensures in
     omega (arith, word_short c.args.k _ e)
 
--- src/words.rt:19:1
 pub returns : goal.returns
 unfolding bytes
 returns c =
