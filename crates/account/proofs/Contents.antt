@@ -10,7 +10,7 @@ use Rattle.std.proofs.Math.Decide.{dec_lt, ℕ_discrete}
 use borrow.Author.Tests.{le-ltb, ltb-false, leb-false, ne_eqb}
 use Rattle.std.proofs.Math.Dec.{ltb, eqb-suc-zero}
 use Rattle.std.proofs.Math.ListN.{set, get_or-eq_default}
-use Rattle.account.specs.Names.{Pipeline, Status, Fault, Instruction, Executed, Accessed, Kept}
+use Rattle.account.specs.Names.{Pipeline, Status, Option, Fault, Instruction, Executed, Accessed, Kept}
 use Rattle.account.specs.Names.{StageD, bubble_d, in_d, StageE, bubble_e, in_e, StageM, bubble_m, in_m, StageW, bubble_w, in_w}
 use Rattle.machine.specs.Words.{placed}
 use Rattle.machine.specs.Memory.{Memory, code_end, holding, size, inside, store}
@@ -70,7 +70,7 @@ bytes_stored x m h = go (stores x.instruction) (inside m (access_address x))
     go true true = bytes_placed 8 m.bytes (access_address x) (stored_word x) h
 
 -- A FETCHED INSTRUCTION is not refused
-stopping_fits : (a : ℕ) (x : Status) (y : Fault) → instruction_refused (stopping a x y) ≡ false
+stopping_fits : (a : ℕ) (x : Status) (y : Option Fault) → instruction_refused (stopping a x y) ≡ false
 unfolding instruction_refused stopping row_of table is
 stopping_fits a x y = refl
 

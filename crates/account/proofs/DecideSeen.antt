@@ -2,7 +2,7 @@
 use Rattle.std.specs.Prelude.{ℕ, ◌<◌, Bool, true, false, [], ◌∷◌, ◌↔◌, ◌≡◌, refl, eqb, get_or}
 use Rattle.std.proofs.Common.{ap, sym, ◌∙◌, eqb-true, eq-eqb}
 use Rattle.account.specs.Names.{Status, aok, hlt, adr, ins, Instruction}
-use Rattle.account.specs.Names.{Fault, no_fault, first_missing, no_code, no_function, later_missing, no_register}
+use Rattle.account.specs.Names.{Option, Fault, no_fault, faulty, first_missing, no_code, no_function, later_missing, no_register}
 use Rattle.machine.specs.Types.{status_number, fault_number}
 use Rattle.machine.specs.Plain.{Plain, is_stopped, steps}
 use Rattle.clocked.specs.Prediction.{Core}
@@ -21,19 +21,19 @@ numbered_back hlt = refl
 numbered_back adr = refl
 numbered_back ins = refl
 
-blamed : ℕ → Fault
-blamed n = get_or (no_fault ∷ first_missing ∷ no_code ∷ no_function ∷ later_missing ∷ no_register ∷ []) n no_fault
+blamed : ℕ → Option Fault
+blamed n = get_or (no_fault ∷ faulty first_missing ∷ faulty no_code ∷ faulty no_function ∷ faulty later_missing ∷ faulty no_register ∷ []) n no_fault
 
-blamed_back : (x : Fault) → blamed (fault_number x) ≡ x
+blamed_back : (x : Option Fault) → blamed (fault_number x) ≡ x
 unfolding blamed fault_number
 blamed_back no_fault = refl
-blamed_back first_missing = refl
-blamed_back no_code = refl
-blamed_back no_function = refl
-blamed_back later_missing = refl
-blamed_back no_register = refl
+blamed_back (faulty first_missing) = refl
+blamed_back (faulty no_code) = refl
+blamed_back (faulty no_function) = refl
+blamed_back (faulty later_missing) = refl
+blamed_back (faulty no_register) = refl
 
-made : (address : ℕ) → Status → (code function ra rb constant next : ℕ) → Fault → Instruction
+made : (address : ℕ) → Status → (code function ra rb constant next : ℕ) → Option Fault → Instruction
 made p s c f a b k n y = record { address = p; status = s; code = c; function = f; ra = a; rb = b; constant = k; next = n; fault = y }
 
 abbrev again : Instruction → Instruction

@@ -8,9 +8,9 @@ use Rattle.std.proofs.Math.Path.{refl, ap, sym}
 use native.Mathlib.Omega.{arith}
 use borrow.Author.Tests.{eqb-true}
 use Rattle.std.proofs.Math.Dec.{eqb}
-use Rattle.account.specs.Names.{Status, hlt, adr, ins, Fault, no_fault, first_missing, later_missing, no_register}
+use Rattle.account.specs.Names.{Status, hlt, adr, ins, Option, Fault, no_fault, faulty, first_missing, later_missing, no_register}
 use Rattle.account.specs.Names.{Codes, Instruction, Decoded, Executed, Retired, in_m, in_w}
-use Rattle.account.specs.Names.{Reason, free, waited, wrongly_guessed, returned, patched}
+use Rattle.account.specs.Names.{Option, Reason, free, because, waited, wrongly_guessed, returned, patched}
 use Rattle.machine.specs.Types.{is_bad}
 use Rattle.machine.specs.Memory.{Memory, inside, store}
 use Rattle.machine.specs.Table.{Row, Sets, no_codes, by_op, by_sum, row_of, table, is, cmov, jump, ret, Which, none, r_a, r_b, rsp}
@@ -47,13 +47,13 @@ record Fetched (a : ℕ) (i : Instruction) : Type 0 where
   nop : is_bad i.status ≡ true → i.code ≡ 1
 
 -- what holds of every stopping instruction, and of the one read where code and function are in the table, holds of the checked one
-pub checked_any : (P : Instruction → Type 0) (f n l r h : Bool) (i : Instruction) → ((x : Status) (y : Fault) → P (stopping i.address x y)) → (n ≡ false → P i)
+pub checked_any : (P : Instruction → Type 0) (f n l r h : Bool) (i : Instruction) → ((x : Status) (y : Option Fault) → P (stopping i.address x y)) → (n ≡ false → P i)
     → P (checked f n l r h i)
 unfolding checked
-checked_any P true n l r h i s k = s adr first_missing
+checked_any P true n l r h i s k = s adr (faulty first_missing)
 checked_any P false true l r h i s k = s ins (not_in_table i.code)
-checked_any P false false true r h i s k = s adr later_missing
-checked_any P false false false true h i s k = s ins no_register
+checked_any P false false true r h i s k = s adr (faulty later_missing)
+checked_any P false false false true h i s k = s ins (faulty no_register)
 checked_any P false false false false true i s k = s hlt no_fault
 checked_any P false false false false false i s k = k refl
 
@@ -427,28 +427,28 @@ module _ (g : Core) (k : Retired) where
     unfolding reason_behind waiting bit
     behind_wait z = rw z (go (load_use g k.instruction j) (mispredicted g k.instruction k.holds && not (eqb k.instruction.function 0)) (is ret k.instruction))
       where
-        go : (a b c : Bool) → waiting (cond a waited (cond b wrongly_guessed (cond c returned free))) ≡ bit a
+        go : (a b c : Bool) → waiting (cond a (because waited) (cond b (because wrongly_guessed) (cond c (because returned) free))) ≡ bit a
         go true b c = refl
         go false true c = refl
         go false false true = refl
         go false false false = refl
 
 -- one that waits is charged for that alone
-pub waiting_less : (r : Reason) → waiting r ≤ amount r
+pub waiting_less : (r : Option Reason) → waiting r ≤ amount r
 unfolding waiting amount
 waiting_less free = omega arith
-waiting_less waited = omega arith
-waiting_less wrongly_guessed = omega arith
-waiting_less returned = omega arith
-waiting_less patched = omega arith
+waiting_less (because waited) = omega arith
+waiting_less (because wrongly_guessed) = omega arith
+waiting_less (because returned) = omega arith
+waiting_less (because patched) = omega arith
 
-waiting_only : (r : Reason) → 2 ≤ amount r → waiting r ≡ 0
+waiting_only : (r : Option Reason) → 2 ≤ amount r → waiting r ≡ 0
 unfolding waiting amount
 waiting_only free h = absurd (omega arith)
-waiting_only waited h = absurd (omega arith)
-waiting_only wrongly_guessed h = refl
-waiting_only returned h = refl
-waiting_only patched h = refl
+waiting_only (because waited) h = absurd (omega arith)
+waiting_only (because wrongly_guessed) h = refl
+waiting_only (because returned) h = refl
+waiting_only (because patched) h = refl
 
 -- an unconditional jump is never guessed wrongly
 module _ (g : Core) (x : Decoded) (c : Codes) where

@@ -7,7 +7,7 @@ use Rattle.std.proofs.Math.Path.{refl, ap, sym}
 use native.Mathlib.Omega.{arith}
 use Rattle.std.proofs.Math.Decide.{dec_lt}
 use Rattle.account.specs.Names.{Status, aok, hlt, adr, ins, Instruction, Executed, Accessed, Retired, last_kept, StageW, bubble_w, in_w}
-use Rattle.account.specs.Names.{Fault, no_fault, first_missing, no_code, no_function, later_missing, no_register, Blame}
+use Rattle.account.specs.Names.{Option, Fault, no_fault, faulty, first_missing, no_code, no_function, later_missing, no_register, Blame}
 use Rattle.machine.specs.Types.{is_bad}
 use Rattle.machine.specs.Memory.{Memory}
 use Rattle.machine.specs.Stages.{access, access_status, loads, stores, loading, storing}
@@ -107,34 +107,34 @@ kept_instruction x y h = ap (λ (r : Retired). r.instruction) (kept_same (retire
 
 -- FETCH
 -- the status of a bad fetch, by its reason; without one it is a halt
-bad_by : Fault → Status
+bad_by : Option Fault → Status
 bad_by no_fault = hlt
-bad_by first_missing = adr
-bad_by no_code = ins
-bad_by no_function = ins
-bad_by later_missing = adr
-bad_by no_register = ins
+bad_by (faulty first_missing) = adr
+bad_by (faulty no_code) = ins
+bad_by (faulty no_function) = ins
+bad_by (faulty later_missing) = adr
+bad_by (faulty no_register) = ins
 
 -- what is fetched at a is performed, or it is settled by its reason
 data Outcome (a : ℕ) (i : Instruction) : Type 0 where
   performs : i.address ≡ a → i.status ≡ aok → i.fault ≡ no_fault → Outcome a i
-  stops : (y : Fault) → i ≡ stopping a (bad_by y) y → Outcome a i
+  stops : (y : Option Fault) → i ≡ stopping a (bad_by y) y → Outcome a i
 
 not_in_table_lem : (code : ℕ) → bad_by (not_in_table code) ≡ ins
 unfolding not_in_table bad_by
 not_in_table_lem code = go (eqb (row_of code).functions 0)
   where
-    go : (b : Bool) → bad_by (cond b no_code no_function) ≡ ins
+    go : (b : Bool) → bad_by (cond b (faulty no_code) (faulty no_function)) ≡ ins
     go true = refl
     go false = refl
 
 outcome_checked : (f n l r h : Bool) (i : Instruction) → i.status ≡ aok → i.fault ≡ no_fault → Outcome i.address (checked f n l r h i)
 unfolding checked bad_by
-outcome_checked true n l r h i s k = stops first_missing refl
+outcome_checked true n l r h i s k = stops (faulty first_missing) refl
 outcome_checked false true l r h i s k =
     stops (not_in_table i.code) (ap (λ (x : Status). stopping i.address x (not_in_table i.code)) (sym (not_in_table_lem i.code)))
-outcome_checked false false true r h i s k = stops later_missing refl
-outcome_checked false false false true h i s k = stops no_register refl
+outcome_checked false false true r h i s k = stops (faulty later_missing) refl
+outcome_checked false false false true h i s k = stops (faulty no_register) refl
 outcome_checked false false false false true i s k = stops no_fault refl
 outcome_checked false false false false false i s k = performs refl s k
 
@@ -169,15 +169,15 @@ module _ (g : Core) (s : Plain) (k : ℕ) (r : is_stopped (steps s (suc k)) ≡ 
 pub failed? : (s : Plain) → Dec (FailedAccess s)
 failed? s = go s.machine.status s.machine.blame.fault refl refl
   where
-    by : (y : Fault) → s.machine.status ≡ adr → s.machine.blame.fault ≡ y → Dec (FailedAccess s)
+    by : (y : Option Fault) → s.machine.status ≡ adr → s.machine.blame.fault ≡ y → Dec (FailedAccess s)
     by no_fault e f = yes (e, f)
-    by first_missing e f = no (λ z. true≢false (cc z.1))
-    by no_code e f = no (λ z. true≢false (cc z.1))
-    by no_function e f = no (λ z. true≢false (cc z.1))
-    by later_missing e f = no (λ z. true≢false (cc z.1))
-    by no_register e f = no (λ z. true≢false (cc z.1))
+    by (faulty first_missing) e f = no (λ z. true≢false (cc z.1))
+    by (faulty no_code) e f = no (λ z. true≢false (cc z.1))
+    by (faulty no_function) e f = no (λ z. true≢false (cc z.1))
+    by (faulty later_missing) e f = no (λ z. true≢false (cc z.1))
+    by (faulty no_register) e f = no (λ z. true≢false (cc z.1))
 
-    go : (x : Status) (y : Fault) → s.machine.status ≡ x → s.machine.blame.fault ≡ y → Dec (FailedAccess s)
+    go : (x : Status) (y : Option Fault) → s.machine.status ≡ x → s.machine.blame.fault ≡ y → Dec (FailedAccess s)
     go aok y e f = no (λ z. true≢false (cc z.0))
     go hlt y e f = no (λ z. true≢false (cc z.0))
     go adr y e f = by y e f
@@ -251,7 +251,7 @@ module _ (g : Core) (t : Start) where
 
       -- so the plain engine stops with what it fetched
       stops_as : is_stopped (steps plain (suc (suc k))) ≡ true
-          → (y : Fault) × (fetched (steps plain (suc k)) ≡ stopping (steps plain (suc k)).machine.address (bad_by y) y)
+          → (y : Option Fault) × (fetched (steps plain (suc k)) ≡ stopping (steps plain (suc k)).machine.address (bad_by y) y)
           × ((steps plain (suc (suc k))).machine.status ≡ bad_by y)
       unfolding fetched accessed stopped_by stopping blame_of is_stopped is_bad
       stops_as h = go (fetch_outcome s.memory s.machine.address)
@@ -270,7 +270,7 @@ module _ (g : Core) (t : Start) where
           failed e (inr z) = absurd (true≢false (sym h ∙ ap is_bad (status ∙ (z ∙ (ap (λ (i : Instruction). i.status) (Laws.in_executed s) ∙ e)))))
 
           go : Outcome s.machine.address (fetched s)
-              → (y : Fault) × (fetched s ≡ stopping s.machine.address (bad_by y) y) × ((steps plain (suc (suc k))).machine.status ≡ bad_by y)
+              → (y : Option Fault) × (fetched s ≡ stopping s.machine.address (bad_by y) y) × ((steps plain (suc (suc k))).machine.status ≡ bad_by y)
           go (performs _ e f) = absurd (bad (status ∙ failed e (access_status_lem (executed s) s.memory), blame ∙ f))
           go (stops y e) =
               let at = Laws.in_executed s in
@@ -308,7 +308,7 @@ module _ (g : Core) (t : Start) where
             same : (y : Accessed) → y.instruction.address ≡ (steps plain (suc k)).machine.address
                 → y.instruction.fault ≡ (fetched (steps plain (suc k))).fault → y.status ≡ (steps plain (suc (suc k))).machine.status
                 → (y.status ≡ adr) ⊎ (y.status ≡ y.instruction.status)
-                → (z : Fault) × (fetched (steps plain (suc k)) ≡ stopping (steps plain (suc k)).machine.address (bad_by z) z)
+                → (z : Option Fault) × (fetched (steps plain (suc k)) ≡ stopping (steps plain (suc k)).machine.address (bad_by z) z)
                 × ((steps plain (suc (suc k))).machine.status ≡ bad_by z)
                 → (m : Memory) (b : ℕ) → fetch m b ≡ y.instruction → Outcome b (fetch m b) → fetch m b ≡ fetched (steps plain (suc k))
             same y address fault status kept z m b e (stops x q) =
@@ -316,7 +316,7 @@ module _ (g : Core) (t : Start) where
                 let one : x ≡ z.0
                 = sym (ap (λ (i : Instruction). i.fault) q) ∙ (ap (λ (i : Instruction). i.fault) e ∙ (fault ∙ ap (λ (i : Instruction). i.fault) z.1)) in
                 q ∙ (ap (λ (v : ℕ). stopping v (bad_by x) x) here
-                ∙ (ap (λ (v : Fault). stopping (steps plain (suc k)).machine.address (bad_by v) v) one ∙ sym z.1))
+                ∙ (ap (λ (v : Option Fault). stopping (steps plain (suc k)).machine.address (bad_by v) v) one ∙ sym z.1))
             same y address fault status kept z m b e (performs _ q f) =
                 let none : z.0 ≡ no_fault
                 = sym (ap (λ (i : Instruction). i.fault) z.1) ∙ (sym fault ∙ (sym (ap (λ (i : Instruction). i.fault) e) ∙ f)) in

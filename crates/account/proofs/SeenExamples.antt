@@ -69,8 +69,8 @@ unfolding sights from distant halted
 at_each_distance = (refl, refl, refl, refl)
 
 -- into a window: behind the store every instruction is fetched late enough
-pub into_a_window : (sights (from (within 0 22) 0 (distant 1)) 2 ≡ halted false true 1 9 hlt) × (sights (from (within 0 22) 0 (distant 2)) 3 ≡ halted false true 2 10 hlt)
-    × (sights (from (within 0 22) 0 (distant 3)) 4 ≡ halted false true 3 11 hlt)
+pub into_a_window : (sights (from (within (0, 22)) 0 (distant 1)) 2 ≡ halted false true 1 9 hlt) × (sights (from (within (0, 22)) 0 (distant 2)) 3 ≡ halted false true 2 10 hlt)
+    × (sights (from (within (0, 22)) 0 (distant 3)) 4 ≡ halted false true 3 11 hlt)
 unfolding sights from distant halted
 into_a_window = (refl, refl, refl)
 

@@ -134,7 +134,7 @@ runs_before s (suc d) j n e h = stopped_before (steps s j) (runs_before s d (suc
 
 -- WITH A WINDOW
 -- a byte that an instruction at a may have is one of the window's
-code_inside : (first end n a x : ℕ) → a ≤ x → x < seen_to (within first end) n a → (first ≤ x) × (x < end)
+code_inside : (first end n a x : ℕ) → a ≤ x → x < seen_to (within (first, end)) n a → (first ≤ x) × (x < end)
 unfolding seen_to
 code_inside first end n a x lo = go (ltb a first) refl
   where
@@ -143,7 +143,7 @@ code_inside first end n a x lo = go (ltb a first) refl
     go false e h = let q = ltb-false a first e in (omega arith, omega arith)
 
 -- a byte of the window that is written is written by a store that is seen to do so
-writes_patches : (s : Plain) (first end x : ℕ) → s.memory.window ≡ within first end → first ≤ x → x < end → writes_byte s x ≡ true → patches_at s ≡ true
+writes_patches : (s : Plain) (first end x : ℕ) → s.memory.window ≡ within (first, end) → first ≤ x → x < end → writes_byte s x ≡ true → patches_at s ≡ true
 unfolding patches_at writes_byte patches meets_window accessed access
 writes_patches s first end x w lo hi h =
     let a = access_address (executed s) in
@@ -172,10 +172,10 @@ window_apart s j n x set z h k = go s.memory.window refl
 
     go : (w : Window) → s.memory.window ≡ w → ⊥
     go no_window e = true≢false (sym set ∙ ap is_set e)
-    go (within first end) e =
+    go (within (first, end)) e =
         let p = both (leb a x) (ltb x (a + size_at (steps s n).memory a) && ltb x (code_end (steps s n).memory a)) k in
         let q = both (ltb x (a + size_at (steps s n).memory a)) (ltb x (code_end (steps s n).memory a)) p.1 in
-        let below : x < seen_to (within first end) (size (steps s n).memory) a =
+        let below : x < seen_to (within (first, end)) (size (steps s n).memory) a =
         subst (λ w. x < seen_to w (size (steps s n).memory) a) ((steps_keep s n).0 ∙ e) (ltb-true x (code_end (steps s n).memory a) q.1) in
         let r = code_inside first end (size (steps s n).memory) a x (leb-true a x p.0) below in
         true≢false (sym (writes_patches (steps s j) first end x ((steps_keep s j).0 ∙ e) r.0 r.1 h) ∙ z)

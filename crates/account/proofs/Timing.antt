@@ -3,7 +3,7 @@ use Rattle.std.specs.Prelude.{ℕ, zero, suc, ◌+◌, ◌*◌, ◌≤◌, ◌<�
 use Rattle.std.proofs.Common.{true≢false, inl, inr, sym, ◌∙◌, arith}
 use Rattle.std.proofs.Math.Logic.{⊎_map}
 use Rattle.std.proofs.Math.Decide.{dec_lt}
-use Rattle.account.specs.Names.{Kinds, Reason, free, waited, wrongly_guessed, returned, patched}
+use Rattle.account.specs.Names.{Kinds, Option, Reason, free, because, waited, wrongly_guessed, returned, patched}
 use Rattle.machine.specs.Plain.{Plain, is_stopped, steps}
 use Rattle.clocked.specs.Prediction.{Core}
 use Rattle.clocked.specs.Charges.{amount, no_kinds, counted, reason_of, charge, charges, kinds_of, due}
@@ -60,13 +60,13 @@ module _ (g : Core) (s : Plain) {c n : ℕ} (o : Older g s c n) where
 unfoldable pub total : Kinds → ℕ
 total t = t.loaduse + t.mispredict + t.returned + t.patched
 
-pub total_counted : (t : Kinds) (r : Reason) → total (counted t r) ≡ total t + amount r
+pub total_counted : (t : Kinds) (r : Option Reason) → total (counted t r) ≡ total t + amount r
 unfolding total counted amount
 total_counted t free = omega arith
-total_counted t waited = omega arith
-total_counted t wrongly_guessed = omega arith
-total_counted t returned = omega arith
-total_counted t patched = omega arith
+total_counted t (because waited) = omega arith
+total_counted t (because wrongly_guessed) = omega arith
+total_counted t (because returned) = omega arith
+total_counted t (because patched) = omega arith
 
 -- "The cycle counts kept by kind sum the charges"
 pub kinds_sum : (g : Core) (s : Plain) (n : ℕ) → total (kinds_of g s n) ≡ charges g s n
@@ -74,13 +74,13 @@ unfolding kinds_of charges charge no_kinds total
 kinds_sum g s zero = refl
 kinds_sum g s (suc n) = omega (arith, total_counted (kinds_of g s n) (reason_of g s (suc n)), kinds_sum g s n)
 
-amount_most : (r : Reason) → amount r ≤ 3
+amount_most : (r : Option Reason) → amount r ≤ 3
 unfolding amount
 amount_most free = omega arith
-amount_most waited = omega arith
-amount_most wrongly_guessed = omega arith
-amount_most returned = omega arith
-amount_most patched = omega arith
+amount_most (because waited) = omega arith
+amount_most (because wrongly_guessed) = omega arith
+amount_most (because returned) = omega arith
+amount_most (because patched) = omega arith
 
 -- "at most 4n + 1": instruction 1 has charge 0, any other at most 3
 pub due_most : (g : Core) (s : Plain) (n : ℕ) → due g s (suc n) ≤ 4 * suc n + 1

@@ -1,7 +1,7 @@
 -- Demand 3's premise at its weakest: each instruction is fetched, from memory as it then stands, as the instruction that the plain engine
 -- performs. From the plain history alone.
 use Rattle.std.specs.Prelude.{ℕ, zero, suc, ◌+◌, ◌-◌, ◌≤◌, ◌<◌, true, false, cond, ◌≡◌, leb, length}
-use Rattle.account.specs.Names.{Reason, free, waited, wrongly_guessed, returned, patched}
+use Rattle.account.specs.Names.{Option, Reason, free, because, waited, wrongly_guessed, returned, patched}
 use Rattle.machine.specs.Memory.{Memory}
 use Rattle.machine.specs.Fetch.{fetch}
 use Rattle.machine.specs.Plain.{Plain, is_stopped, fetched, steps}
@@ -12,12 +12,12 @@ use Rattle.clocked.specs.Premise.{writes_byte, has_byte}
 use Rattle.account.specs.Statement.{Start, plain_from, piped_from, Agrees}
 
 -- 1 where an instruction waits for a load: it does so in D, after its fetch. Every other charge passes before the fetch
-unfoldable pub waiting : Reason → ℕ
+unfoldable pub waiting : Option Reason → ℕ
 waiting free = 0
-waiting waited = 1
-waiting wrongly_guessed = 0
-waiting returned = 0
-waiting patched = 0
+waiting (because waited) = 1
+waiting (because wrongly_guessed) = 0
+waiting (because returned) = 0
+waiting (because patched) = 0
 
 unfoldable pub wait : Core → Plain → ℕ → ℕ
 wait g s k = waiting (reason_of g s k)

@@ -5,10 +5,8 @@ use Prim.Native.Nat.{ℕ, ◌+◌, ◌-◌, ◌*◌, ◌≤◌, ◌<◌}
 use native.Mathlib.Omega.{arith}
 use lib.Dec.{ltb}
 use borrow.Author.Tests.{ne_eqb, lt-ltb, le-ltb, ltb-true, ltb-false}
-use Rattle.machine.specs.declared.Window.{Window}
-use Rattle.machine.specs.declared.Window.TheVariants.{NoWindow as no_window, Within as within}
-use Rattle.machine.specs.declared.Codes.{Codes}
-use Rattle.machine.specs.Types.{codes_number}
+use Rattle.machine.specs.Types.{Window}
+use Rattle.machine.specs.Types.{no_window, within}
 use Rattle.machine.specs.Runs.{size_refused, budget_refused, start_refused, window_refused, start_refusal, lowest}
 
 pub no_budget : (l c b : ℕ) → b ≡ 0 → true ≡ budget_refused l c b
@@ -32,7 +30,7 @@ pub no_window_lem : (w : Window) (n : ℕ) → w ≡ no_window → false ≡ win
 unfolding window_refused
 no_window_lem w n e = cc
 
-pub a_window : (w : Window) (first end n : ℕ) → w ≡ within first end → (ltb n first || (ltb n end || ltb end first)) ≡ window_refused w n
+pub a_window : (w : Window) (first end n : ℕ) → w ≡ within (first, end) → (ltb n first || (ltb n end || ltb end first)) ≡ window_refused w n
 unfolding window_refused
 a_window w first end n e = cc
 
@@ -55,7 +53,3 @@ module _ (w : Window) (size address : ℕ) (x : Bool) (hx : x ≡ size_refused s
       pub starts : y ≡ false → 0 ≡ start_refusal w size address
       unfolding start_refusal lowest
       starts t = cc
-
-pub codes_is : (c : Codes) (z s o : ℕ) → z ≡ cond c.zf 1 0 → s ≡ cond c.sf 1 0 → o ≡ cond c.of 1 0 → 4 * z + 2 * s + o ≡ codes_number c
-unfolding codes_number
-codes_is c z s o e f g = cc

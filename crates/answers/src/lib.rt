@@ -3,10 +3,9 @@
 #![tactic(auto)]
 
 ghost use Rattle.std.specs.Prelude.{◌≡◌, cond, ◌≤◌, set};
-ghost use Rattle.machine.specs.Types.{codes_number};
 ghost use Rattle.machine.specs.Runs.{size_refused, budget_refused, start_refused, window_refused, start_refusal};
 
-use machine::{Codes, MEMORY_LIMIT, Window};
+use machine::{MEMORY_LIMIT, Window};
 
 // Refusal 1: no memory, or more than 65,536 bytes.
 pub fn size_refused(size: usize) -> bool
@@ -28,8 +27,8 @@ pub fn window_refused(window: Window, size: usize) -> bool
 {
     let n = size as u64;
     match window {
-        Window::NoWindow => false,
-        Window::Within(first, end) => (n < first) | ((n < end) | (end < first)),
+        None => false,
+        Some((first, end)) => (n < first) | ((n < end) | (end < first)),
     }
 }
 
@@ -70,17 +69,4 @@ pub fn note(log: &mut [u64], k: u64, x: u64)
     if at < log.len() {
         log[at] = x;
     }
-}
-
-fn bit(b: bool) -> u64
-    ensures { (result ≡ cond b 1 0) × (result ≤ 1) }
-{
-    if b { 1 } else { 0 }
-}
-
-// "codes as 4ZF + 2SF + OF"
-pub fn codes_number(c: Codes) -> u64
-    ensures { result ≡ codes_number c }
-{
-    4 * bit(c.zf) + 2 * bit(c.sf) + bit(c.of)
 }

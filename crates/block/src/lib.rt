@@ -1,12 +1,11 @@
-// What the exported functions share: words in lent blocks, and codes and status by their numbers.
+// What the exported functions share: words in lent blocks.
 
 #![tactic(auto)]
 
 ghost use Rattle.std.specs.Prelude.{◌≡◌, ◌*◌, ◌≤◌, length};
-ghost use Rattle.machine.specs.Types.{fault_number, status_number};
-ghost use Rattle.block.specs.Block.{words_in, with_words, codes_from};
+ghost use Rattle.block.specs.Block.{words_in, with_words};
 
-use machine::{Codes, Fault, REGISTERS, Status};
+use machine::REGISTERS;
 
 // The fifteen words of a register block.
 pub fn read_registers(block: &[u8]) -> [u64; REGISTERS]
@@ -31,39 +30,5 @@ pub fn write_words(block: &mut [u8], words: &[u64])
     while k < words.len() {
         word::store(block, (8 * k) as u64, words[k]);
         k += 1;
-    }
-}
-
-pub fn codes_from(number: u64) -> Codes
-    ensures { result ≡ codes_from number }
-{
-    Codes {
-        zf: number / 4 == 1,
-        sf: number / 2 % 2 == 1,
-        of: number % 2 == 1,
-    }
-}
-
-pub fn fault_number(fault: Fault) -> u64
-    ensures { result ≡ fault_number fault }
-{
-    match fault {
-        Fault::NoFault => 0,
-        Fault::FirstMissing => 1,
-        Fault::NoCode => 2,
-        Fault::NoFunction => 3,
-        Fault::LaterMissing => 4,
-        Fault::NoRegister => 5,
-    }
-}
-
-pub fn status_number(status: Status) -> u64
-    ensures { result ≡ status_number status }
-{
-    match status {
-        Status::Aok => 1,
-        Status::Hlt => 2,
-        Status::Adr => 3,
-        Status::Ins => 4,
     }
 }

@@ -35,15 +35,15 @@ fn status_at(block: &[u64], part: u64, place: u64) -> Status {
     }
 }
 
-fn fault_at(block: &[u64], part: u64, place: u64) -> Fault {
+fn fault_at(block: &[u64], part: u64, place: u64) -> Option<Fault> {
     let number = word_at(block, part, place);
     match number {
-        1 => Fault::FirstMissing,
-        2 => Fault::NoCode,
-        3 => Fault::NoFunction,
-        4 => Fault::LaterMissing,
-        5 => Fault::NoRegister,
-        _ => Fault::NoFault,
+        1 => Some(Fault::FirstMissing),
+        2 => Some(Fault::NoCode),
+        3 => Some(Fault::NoFunction),
+        4 => Some(Fault::LaterMissing),
+        5 => Some(Fault::NoRegister),
+        _ => None,
     }
 }
 
@@ -74,27 +74,27 @@ fn instruction_in(block: &[u64], part: u64) -> Instruction {
 
 fn d_in(block: &[u64]) -> StageD {
     if !is_marked(block, D) {
-        return StageD::BubbleD;
+        return None;
     }
     let instruction = instruction_in(block, D);
-    StageD::InD(instruction)
+    Some(instruction)
 }
 
 fn e_in(block: &[u64]) -> StageE {
     if !is_marked(block, E) {
-        return StageE::BubbleE;
+        return None;
     }
     let decoded = Decoded {
         instruction: instruction_in(block, E),
         a: word_at(block, E, E_A),
         b: word_at(block, E, E_B),
     };
-    StageE::InE(decoded)
+    Some(decoded)
 }
 
 fn m_in(block: &[u64]) -> StageM {
     if !is_marked(block, M) {
-        return StageM::BubbleM;
+        return None;
     }
     let executed = Executed {
         instruction: instruction_in(block, M),
@@ -102,12 +102,12 @@ fn m_in(block: &[u64]) -> StageM {
         result: word_at(block, M, M_RESULT),
         holds: truth_at(block, M, M_HOLDS),
     };
-    StageM::InM(executed)
+    Some(executed)
 }
 
 fn w_in(block: &[u64]) -> StageW {
     if !is_marked(block, W) {
-        return StageW::BubbleW;
+        return None;
     }
     let accessed = Accessed {
         instruction: instruction_in(block, W),
@@ -117,19 +117,19 @@ fn w_in(block: &[u64]) -> StageW {
         status: status_at(block, W, W_STATUS),
         patched: truth_at(block, W, W_PATCHED),
     };
-    StageW::InW(accessed)
+    Some(accessed)
 }
 
 fn kept_in(block: &[u64]) -> Kept {
     if !is_marked(block, KEPT) {
-        return Kept::NoneKept;
+        return None;
     }
     let retired = Retired {
         instruction: instruction_in(block, KEPT),
         holds: truth_at(block, KEPT, KEPT_HOLDS),
         patched: truth_at(block, KEPT, KEPT_PATCHED),
     };
-    Kept::LastKept(retired)
+    Some(retired)
 }
 
 fn kinds_in(block: &[u64]) -> Kinds {
@@ -172,11 +172,11 @@ pub fn codes_in(block: &[u64], state: u64) -> Codes {
 
 pub fn window_in(block: &[u64], part: u64) -> Window {
     if !truth_at(block, part, WINDOWED) {
-        return Window::NoWindow;
+        return None;
     }
     let first = word_at(block, part, FIRST);
     let end = word_at(block, part, END);
-    Window::Within(first, end)
+    Some((first, end))
 }
 
 pub fn machine_in(block: &[u64]) -> Machine {

@@ -39,18 +39,18 @@ fn put_status(block: &mut [u64], part: u64, place: u64, status: Status) {
     put(block, part, place, status_number(status));
 }
 
-fn fault_number(fault: Fault) -> u64 {
+fn fault_number(fault: Option<Fault>) -> u64 {
     match fault {
-        Fault::NoFault => 0,
-        Fault::FirstMissing => 1,
-        Fault::NoCode => 2,
-        Fault::NoFunction => 3,
-        Fault::LaterMissing => 4,
-        Fault::NoRegister => 5,
+        None => 0,
+        Some(Fault::FirstMissing) => 1,
+        Some(Fault::NoCode) => 2,
+        Some(Fault::NoFunction) => 3,
+        Some(Fault::LaterMissing) => 4,
+        Some(Fault::NoRegister) => 5,
     }
 }
 
-fn put_fault(block: &mut [u64], part: u64, place: u64, fault: Fault) {
+fn put_fault(block: &mut [u64], part: u64, place: u64, fault: Option<Fault>) {
     put(block, part, place, fault_number(fault));
 }
 
@@ -90,15 +90,15 @@ pub fn put_instruction(block: &mut [u64], part: u64, i: Instruction) {
 
 fn put_d(block: &mut [u64], d: StageD) {
     match d {
-        StageD::BubbleD => put_bubble(block, D),
-        StageD::InD(i) => put_instruction(block, D, i),
+        None => put_bubble(block, D),
+        Some(i) => put_instruction(block, D, i),
     }
 }
 
 fn put_e(block: &mut [u64], e: StageE) {
     match e {
-        StageE::BubbleE => put_bubble(block, E),
-        StageE::InE(x) => {
+        None => put_bubble(block, E),
+        Some(x) => {
             let i = x.instruction;
             put_instruction(block, E, i);
             put(block, E, E_A, x.a);
@@ -109,8 +109,8 @@ fn put_e(block: &mut [u64], e: StageE) {
 
 fn put_m(block: &mut [u64], m: StageM) {
     match m {
-        StageM::BubbleM => put_bubble(block, M),
-        StageM::InM(x) => {
+        None => put_bubble(block, M),
+        Some(x) => {
             let i = x.instruction;
             put_instruction(block, M, i);
             put(block, M, M_A, x.a);
@@ -122,8 +122,8 @@ fn put_m(block: &mut [u64], m: StageM) {
 
 fn put_w(block: &mut [u64], w: StageW) {
     match w {
-        StageW::BubbleW => put_bubble(block, W),
-        StageW::InW(x) => {
+        None => put_bubble(block, W),
+        Some(x) => {
             let i = x.instruction;
             let status = x.status;
             put_instruction(block, W, i);
@@ -138,8 +138,8 @@ fn put_w(block: &mut [u64], w: StageW) {
 
 fn put_kept(block: &mut [u64], kept: Kept) {
     match kept {
-        Kept::NoneKept => put_bubble(block, KEPT),
-        Kept::LastKept(x) => {
+        None => put_bubble(block, KEPT),
+        Some(x) => {
             let i = x.instruction;
             put_instruction(block, KEPT, i);
             put_truth(block, KEPT, KEPT_HOLDS, x.holds);
@@ -212,8 +212,8 @@ fn put_state(
 
 fn put_window(block: &mut [u64], part: u64, window: Window) {
     match window {
-        Window::NoWindow => put_truth(block, part, WINDOWED, false),
-        Window::Within(first, end) => {
+        None => put_truth(block, part, WINDOWED, false),
+        Some((first, end)) => {
             put_truth(block, part, WINDOWED, true);
             put(block, part, FIRST, first);
             put(block, part, END, end);

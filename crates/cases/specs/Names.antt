@@ -1,8 +1,8 @@
 -- The declared types under one roof.
 pub use Rattle.machine.specs.declared.Status.{Status}
 pub use Rattle.machine.specs.declared.Status.TheVariants.{Aok as aok, Hlt as hlt, Adr as adr, Ins as ins}
-pub use Rattle.machine.specs.declared.Window.{Window}
-pub use Rattle.machine.specs.declared.Window.TheVariants.{NoWindow as no_window, Within as within}
+pub use Rattle.machine.specs.Types.{Window}
+pub use Rattle.machine.specs.Types.{no_window, within}
 pub use Rattle.machine.specs.declared.Codes.{Codes}
 pub use Rattle.machine.specs.declared.Instruction.{Instruction}
 pub use Rattle.machine.specs.declared.FetchAnswer.{FetchAnswer}

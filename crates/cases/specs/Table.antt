@@ -29,7 +29,7 @@ abbrev patching : (first end size bytes image : ℕ) → List (ℕ × ℕ) → S
     → Case
 patching first end n k x r t a c i y l m u p s =
     record {
-      settings = record { rule = 0; late = false; window = within first end };
+      settings = record { rule = 0; late = false; window = within (first, end) };
       size = n;
       bytes = k;
       image = x;

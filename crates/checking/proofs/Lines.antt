@@ -10,9 +10,10 @@ use borrow.Author.Tests.{le-ltb, leb-false}
 use Rattle.machine.specs.declared.Accessed.{Accessed}
 use Rattle.machine.specs.declared.Executed.{Executed}
 use Rattle.machine.specs.declared.Machine.{Machine}
-use Rattle.machine.specs.declared.Window.TheVariants.{NoWindow as no_window}
+use Rattle.machine.specs.Types.{no_window}
 use Rattle.clocked.specs.declared.Reason.{Reason}
-use Rattle.clocked.specs.declared.Kept.TheVariants.{LastKept as last_kept}
+use Rattle.machine.specs.Types.{Option}
+use Rattle.clocked.specs.Record.{last_kept}
 use Rattle.machine.specs.Types.{is_bad}
 use Rattle.machine.specs.Memory.{Memory, lent, through, value}
 use Rattle.machine.specs.Stages.{access, new_registers}
@@ -30,7 +31,7 @@ use Rattle.checking.specs.Stores.{store_by, written_by}
 use Rattle.checking.specs.State.{held, charged_next, line_due, DueLine, faulty, passed_on, Checked, no_line, written, differs, right}
 
 -- THE LINE THAT IS DUE
-pub due_is : (g : Core) (trace m : List ℕ) (c : Checking) (x : Executed) (w : Accessed) (reason : Reason) (charge target v next : ℕ)
+pub due_is : (g : Core) (trace m : List ℕ) (c : Checking) (x : Executed) (w : Accessed) (reason : Option Reason) (charge target v next : ℕ)
     → x ≡ executed (plain_of c.machine (lent m)) → w ≡ access x (through c.machine.window (lent m)) → reason ≡ reason_from g c.kept w.instruction
     → charge ≡ amount reason → target ≡ target_of w → v ≡ value (new_registers w c.machine.registers) target
     → (let line = trace_line (c.machine.count + 1) c.machine.address (c.machine.count + 1 + 4 + (c.charged + charge)) target v in

@@ -12,8 +12,8 @@ use Rattle.machine.specs.declared.Accessed.{Accessed}
 use Rattle.machine.specs.declared.Executed.{Executed}
 use Rattle.machine.specs.declared.Instruction.{Instruction}
 use Rattle.machine.specs.declared.Machine.{Machine}
-use Rattle.machine.specs.declared.Window.{Window}
-use Rattle.machine.specs.declared.Window.TheVariants.{NoWindow as no_window, Within as in_window}
+use Rattle.machine.specs.Types.{Window}
+use Rattle.machine.specs.Types.{no_window, within}
 use Rattle.machine.specs.Types.{is_set}
 use Rattle.machine.specs.Memory.{Memory, lent, through, inside, value, written}
 use Rattle.machine.specs.Table.{row_of, Accesses, no_access, loads_at_e, loads_at_a, stores_a, stores_next}
@@ -79,7 +79,7 @@ module _ (t : Stores) (m : List ℕ) (a : ℕ) where
   unfolding written_by is_set
   asked w b e f = cc
 
-  pub not_asked : (w : Window) (first end : ℕ) → w ≡ in_window first end → false ≡ written_by w t (lent m) a
+  pub not_asked : (w : Window) (first end : ℕ) → w ≡ within (first, end) → false ≡ written_by w t (lent m) a
   unfolding written_by is_set
   not_asked w first end e = cc
 

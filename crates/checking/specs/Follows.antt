@@ -8,8 +8,8 @@ use Rattle.std.proofs.Math.Path.{refl, ap, sym}
 use Rattle.std.proofs.lemmas.Bool.{lt-leb}
 use Rattle.machine.specs.declared.Executed.{Executed}
 use Rattle.machine.specs.declared.Machine.{Machine}
-use Rattle.machine.specs.declared.Window.{Window}
-use Rattle.machine.specs.declared.Window.TheVariants.{NoWindow as no_window, Within as within}
+use Rattle.machine.specs.Types.{Window}
+use Rattle.machine.specs.Types.{no_window, within}
 use Rattle.machine.specs.Types.{is_bad, is_set}
 use Rattle.machine.specs.Memory.{Memory, through, size, inside, seen_to, code_end, value}
 use Rattle.machine.specs.Table.{row_of, Accesses, no_access, loads_at_e, loads_at_a, stores_a, stores_next}
@@ -80,7 +80,7 @@ stored_at stores_next x h = refl
 unset : (w : Window) → is_set w ≡ false → w ≡ no_window
 unfolding is_set
 unset no_window h = refl
-unset (within a b) h = absurd (true≢false h)
+unset (within (a, b)) h = absurd (true≢false h)
 
 module _ (s t : Plain) (o : is_set t.memory.window ≡ false) where
   hits_touches : hits (store_of s) t.machine.address (t.machine.address + size_at t.memory t.machine.address) (size t.memory) ≡ touches s t

@@ -10,14 +10,14 @@ use Rattle.std.proofs.Math.Dec.{leb}
 use Rattle.machine.specs.declared.Accessed.{Accessed}
 use Rattle.machine.specs.declared.Executed.{Executed}
 use Rattle.machine.specs.declared.Machine.{Machine}
-use Rattle.machine.specs.declared.Window.TheVariants.{NoWindow as no_window}
+use Rattle.machine.specs.Types.{no_window}
 use Rattle.machine.specs.Types.{is_bad}
 use Rattle.machine.specs.Memory.{Memory, through}
 use Rattle.machine.specs.Plain.{Plain, plain_of, is_stopped, steps}
 use Rattle.machine.specs.Runs.{size_refused, window_refused}
 use Rattle.clocked.specs.Prediction.{Core}
 use Rattle.clocked.specs.Charges.{charges, due}
-use Rattle.clocked.specs.declared.Kept.TheVariants.{NoneKept as none_kept}
+use Rattle.clocked.specs.Record.{none_kept}
 use Rattle.laws.specs.Tests.{neither}
 use Rattle.laws.specs.Window.{steps_keep}
 use Rattle.account.specs.Statement.{kept_of}

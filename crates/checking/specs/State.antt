@@ -2,8 +2,8 @@
 use Rattle.std.specs.Prelude.{ℕ, ◌+◌, ◌*◌, ◌≤◌, true, false, cond, ◌||◌, List, ◌≡◌, leb, length, drop}
 use Rattle.machine.specs.declared.Accessed.{Accessed}
 use Rattle.machine.specs.declared.Executed.{Executed}
-use Rattle.machine.specs.declared.Window.TheVariants.{NoWindow as no_window}
-use Rattle.clocked.specs.declared.Kept.TheVariants.{LastKept as last_kept}
+use Rattle.machine.specs.Types.{no_window}
+use Rattle.clocked.specs.Record.{last_kept}
 use Rattle.machine.specs.Types.{is_bad}
 use Rattle.machine.specs.Memory.{Memory, through, value}
 use Rattle.machine.specs.Stages.{new_registers}

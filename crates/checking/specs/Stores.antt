@@ -1,7 +1,7 @@
 -- What is kept of the three instructions before one, and that it tells whether one of them wrote into it.
 use Rattle.std.specs.Prelude.{ℕ, suc, ◌+◌, ◌-◌, Bool, false, cond, not, ◌&&◌, ◌||◌, ltb, leb}
 use Rattle.machine.specs.declared.Executed.{Executed}
-use Rattle.machine.specs.declared.Window.{Window}
+use Rattle.machine.specs.Types.{Window}
 use Rattle.machine.specs.Types.{is_set}
 use Rattle.machine.specs.Memory.{Memory, size, inside}
 use Rattle.machine.specs.Fetch.{size_at}

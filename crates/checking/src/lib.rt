@@ -6,7 +6,7 @@ mod looking;
 mod stores;
 
 ghost use Rattle.std.specs.Prelude.{◌≡◌, false, ◌≤◌, ◌<◌, length};
-ghost use Rattle.machine.specs.declared.Window.TheVariants.{NoWindow as no_window};
+ghost use Rattle.machine.specs.Types.{no_window};
 ghost use Rattle.machine.specs.Memory.{lent, through};
 ghost use Rattle.machine.specs.Plain.{plain_of, step as step_of, steps};
 ghost use Rattle.machine.specs.Runs.{size_refused, window_refused};
@@ -113,7 +113,7 @@ fn pass(c: Checking, due: Due, copy: &mut [u8]) -> Checking
     let store = store_of(x, copy);
     let answer = plain::step(machine, copy);
     let after = answer.machine;
-    let kept = Kept::LastKept(Retired {
+    let kept = Some(Retired {
         instruction: i,
         holds: w.holds,
         patched: w.patched,
@@ -171,7 +171,7 @@ fn at_start(machine: Machine) -> Checking
     Checking {
         machine,
         charged: 0,
-        kept: Kept::NoneKept,
+        kept: None,
         stores,
         at: 0,
         kind: 0,

@@ -41,15 +41,16 @@ pub fn value_after(registers: [u64; REGISTERS], w: Accessed, q: u8) -> u64
     value(&after, q)
 }
 
-pub fn charge_of(reason: Reason) -> u64
+#[tactic(auto, unfolding(clocked::specs::Charges::amount))]
+pub fn charge_of(reason: Option<Reason>) -> u64
     ensures { (result ≡ amount reason) × (result ≤ 3) }
 {
     match reason {
-        Reason::Free => 0,
-        Reason::Waited => 1,
-        Reason::WronglyGuessed => 2,
-        Reason::Returned => 3,
-        Reason::Patched => 3,
+        None => 0,
+        Some(Reason::Waited) => 1,
+        Some(Reason::WronglyGuessed) => 2,
+        Some(Reason::Returned) => 3,
+        Some(Reason::Patched) => 3,
     }
 }
 

@@ -76,7 +76,7 @@ pub fn written_into(window: Window, stores: Stores, memory: &[u8], address: u64)
     ensures { result ≡ written_by window stores (lent memory.now) address }
 {
     match window {
-        Window::NoWindow => touched(stores, memory, address),
-        Window::Within(_, _) => false,
+        None => touched(stores, memory, address),
+        Some((_, _)) => false,
     }
 }

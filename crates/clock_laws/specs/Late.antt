@@ -3,10 +3,10 @@ use Rattle.std.specs.Prelude.{◌≡◌, refl, Bool, true, false, ◌||◌}
 use Rattle.std.proofs.Common.{sym, true≢false, eqb-true}
 use Rattle.machine.specs.declared.Codes.{Codes}
 use Rattle.machine.specs.declared.Decoded.{Decoded}
-use Rattle.clocked.specs.declared.StageE.{StageE}
-use Rattle.clocked.specs.declared.StageE.TheVariants.{BubbleE as bubble_e, InE as in_e}
-use Rattle.clocked.specs.declared.StageW.{StageW}
-use Rattle.clocked.specs.declared.StageW.TheVariants.{BubbleW as bubble_w, InW as in_w}
+use Rattle.clocked.specs.Record.{StageE}
+use Rattle.clocked.specs.Record.{bubble_e, in_e}
+use Rattle.clocked.specs.Record.{StageW}
+use Rattle.clocked.specs.Record.{bubble_w, in_w}
 use Rattle.machine.specs.Table.{table, row_of, is}
 use Rattle.machine.specs.Stages.{codes_by, new_codes}
 use Rattle.clocked.specs.Prediction.{Core, rmmovq, pushq, takes_late}

@@ -3,8 +3,8 @@ use Rattle.std.specs.Prelude.{ℕ, Bool, true, false, cond, ◌&&◌, ◌≡◌,
 use Rattle.std.proofs.Common.{ap, sym, ◌∙◌, arith, ltb-true, eqb-true, length-set, get_or-set_same, get_or-set_other}
 use Rattle.std.proofs.lemmas.Bool.{eqb-false}
 use Rattle.machine.specs.declared.Accessed.{Accessed}
-use Rattle.clocked.specs.declared.StageW.{StageW}
-use Rattle.clocked.specs.declared.StageW.TheVariants.{BubbleW as bubble_w, InW as in_w}
+use Rattle.clocked.specs.Record.{StageW}
+use Rattle.clocked.specs.Record.{bubble_w, in_w}
 use Rattle.machine.specs.Memory.{Registers, value, written}
 use Rattle.machine.specs.Stages.{new_registers, result_target, loaded_target}
 use Rattle.clocked.specs.Prediction.{meets}

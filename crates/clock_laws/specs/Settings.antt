@@ -2,8 +2,8 @@
 use Rattle.std.specs.Prelude.{ℕ, zero, suc, ◌≡◌, refl, Bool, true, false, cond}
 use Rattle.std.proofs.Common.{◌∙◌}
 use Rattle.machine.specs.Types.{is_bad}
-use Rattle.clocked.specs.declared.StageW.{StageW}
-use Rattle.clocked.specs.declared.StageW.TheVariants.{BubbleW as bubble_w, InW as in_w}
+use Rattle.clocked.specs.Record.{StageW}
+use Rattle.clocked.specs.Record.{bubble_w, in_w}
 use Rattle.clocked.specs.Prediction.{Core}
 use Rattle.clocked.specs.Pipeline.{Piped, advanced, stopped_in, clock_by, clock, clocks}
 

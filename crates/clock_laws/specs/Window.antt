@@ -3,10 +3,10 @@ use Rattle.std.specs.Prelude.{ℕ, zero, suc, ◌≡◌, refl, Bool, true, false
 use Rattle.std.proofs.Common.{◌∙◌}
 use Rattle.machine.specs.Types.{is_bad}
 use Rattle.machine.specs.Memory.{Memory}
-use Rattle.clocked.specs.declared.StageM.{StageM}
-use Rattle.clocked.specs.declared.StageM.TheVariants.{BubbleM as bubble_m, InM as in_m}
-use Rattle.clocked.specs.declared.StageW.{StageW}
-use Rattle.clocked.specs.declared.StageW.TheVariants.{BubbleW as bubble_w, InW as in_w}
+use Rattle.clocked.specs.Record.{StageM}
+use Rattle.clocked.specs.Record.{bubble_m, in_m}
+use Rattle.clocked.specs.Record.{StageW}
+use Rattle.clocked.specs.Record.{bubble_w, in_w}
 use Rattle.clocked.specs.Prediction.{Core}
 use Rattle.clocked.specs.Pipeline.{Piped, memory_after, advanced, stopped_in, clock_by, clock, clocks}
 use Rattle.laws.specs.Window.{window_kept}

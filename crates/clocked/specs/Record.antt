@@ -2,8 +2,7 @@
 pub use Rattle.machine.specs.declared.Status.{Status}
 pub use Rattle.machine.specs.declared.Status.TheVariants.{Aok as aok, Hlt as hlt, Adr as adr, Ins as ins}
 pub use Rattle.machine.specs.declared.Codes.{Codes}
-pub use Rattle.machine.specs.declared.Window.{Window}
-pub use Rattle.machine.specs.declared.Window.TheVariants.{NoWindow as no_window, Within as within}
+pub use Rattle.machine.specs.Types.{Window, no_window, within, Option}
 pub use Rattle.machine.specs.declared.Machine.{Machine}
 pub use Rattle.machine.specs.declared.Instruction.{Instruction}
 pub use Rattle.machine.specs.declared.Decoded.{Decoded}
@@ -11,17 +10,29 @@ pub use Rattle.machine.specs.declared.Executed.{Executed}
 pub use Rattle.machine.specs.declared.Accessed.{Accessed}
 pub use Rattle.clocked.specs.declared.Settings.{Settings}
 pub use Rattle.clocked.specs.declared.Retired.{Retired}
-pub use Rattle.clocked.specs.declared.StageD.{StageD}
-pub use Rattle.clocked.specs.declared.StageD.TheVariants.{BubbleD as bubble_d, InD as in_d}
-pub use Rattle.clocked.specs.declared.StageE.{StageE}
-pub use Rattle.clocked.specs.declared.StageE.TheVariants.{BubbleE as bubble_e, InE as in_e}
-pub use Rattle.clocked.specs.declared.StageM.{StageM}
-pub use Rattle.clocked.specs.declared.StageM.TheVariants.{BubbleM as bubble_m, InM as in_m}
-pub use Rattle.clocked.specs.declared.StageW.{StageW}
-pub use Rattle.clocked.specs.declared.StageW.TheVariants.{BubbleW as bubble_w, InW as in_w}
-pub use Rattle.clocked.specs.declared.Kept.{Kept}
-pub use Rattle.clocked.specs.declared.Kept.TheVariants.{NoneKept as none_kept, LastKept as last_kept}
 pub use Rattle.clocked.specs.declared.Reason.{Reason}
-pub use Rattle.clocked.specs.declared.Reason.TheVariants.{Free as free, Waited as waited, WronglyGuessed as wrongly_guessed, Returned as returned, Patched as patched}
+pub use Rattle.clocked.specs.declared.Reason.TheVariants.{Waited as waited, WronglyGuessed as wrongly_guessed, Returned as returned, Patched as patched}
 pub use Rattle.clocked.specs.declared.Kinds.{Kinds}
 pub use Rattle.clocked.specs.declared.Pipeline.{Pipeline}
+pub use Rattle.std.specs.declared.option.Option.TheVariants.{None as bubble_d, Some as in_d}
+pub use Rattle.std.specs.declared.option.Option.TheVariants.{None as bubble_e, Some as in_e}
+pub use Rattle.std.specs.declared.option.Option.TheVariants.{None as bubble_m, Some as in_m}
+pub use Rattle.std.specs.declared.option.Option.TheVariants.{None as bubble_w, Some as in_w}
+pub use Rattle.std.specs.declared.option.Option.TheVariants.{None as none_kept, Some as last_kept}
+pub use Rattle.std.specs.declared.option.Option.TheVariants.{None as free, Some as because}
+
+-- each stage holds an instruction, or a bubble
+abbrev pub StageD : Type 0
+StageD = Option Instruction
+
+abbrev pub StageE : Type 0
+StageE = Option Decoded
+
+abbrev pub StageM : Type 0
+StageM = Option Executed
+
+abbrev pub StageW : Type 0
+StageW = Option Accessed
+
+abbrev pub Kept : Type 0
+Kept = Option Retired

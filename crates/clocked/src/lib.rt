@@ -27,41 +27,21 @@ pub struct Retired {
     pub patched: bool,
 }
 
-// Each stage holds an instruction, or a bubble.
-#[derive(Clone, Copy)]
-pub enum StageD {
-    BubbleD,
-    InD(Instruction),
-}
+// Each stage holds an instruction, or a bubble, which is none.
+pub type StageD = Option<Instruction>;
 
-#[derive(Clone, Copy)]
-pub enum StageE {
-    BubbleE,
-    InE(Decoded),
-}
+pub type StageE = Option<Decoded>;
 
-#[derive(Clone, Copy)]
-pub enum StageM {
-    BubbleM,
-    InM(Executed),
-}
+pub type StageM = Option<Executed>;
 
-#[derive(Clone, Copy)]
-pub enum StageW {
-    BubbleW,
-    InW(Accessed),
-}
+pub type StageW = Option<Accessed>;
 
-#[derive(Clone, Copy)]
-pub enum Kept {
-    NoneKept,
-    LastKept(Retired),
-}
+// What is kept, if an instruction retired yet.
+pub type Kept = Option<Retired>;
 
-// Why an instruction is charged, or that it is not.
-#[derive(Clone, Copy)]
+// Why an instruction is charged.
+#[derive(Clone, Copy, PartialEq, Eq)]
 pub enum Reason {
-    Free,
     Waited,
     WronglyGuessed,
     Returned,

@@ -4,6 +4,7 @@ ghost use Rattle.block.specs.Block.{with_words};
 ghost use Rattle.edge.specs.Edge.{edge_run};
 
 use clocked::{Pipeline, Settings};
+use machine::Codes;
 
 // One pipelined run without logs from a fresh start; the final registers go back into their block.
 pub fn replay(
@@ -23,7 +24,7 @@ pub fn replay(
         settings,
         memory.len(),
         block::read_registers(registers),
-        block::codes_from(codes),
+        Codes::from(codes),
         start,
     );
     let fresh = started.pipeline;

@@ -9,7 +9,7 @@ use Rattle.std.proofs.Math.Seq.{take_at, take-length, append_snoc, get_or-append
 use borrow.Author.Tests.{leb-false, ltb-false, ne_eqb, le-ltb}
 use Rattle.machine.specs.declared.Instruction.{Instruction}
 use Rattle.machine.specs.declared.Status.TheVariants.{Aok as aok}
-use Rattle.machine.specs.declared.Fault.TheVariants.{NoFault as no_fault}
+use Rattle.machine.specs.Types.{no_fault}
 use Rattle.machine.specs.Words.{sum, number}
 use Rattle.machine.specs.Memory.{lent, seen_to, code_end}
 use Rattle.machine.specs.Table.{RegisterByte, no_byte, both_named, only_b, only_a, table, row_of}

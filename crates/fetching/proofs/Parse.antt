@@ -8,11 +8,12 @@ use borrow.Author.Tests.{eq-eqb, ne_eqb, lt-ltb, le-ltb, le-leb, lt-leb, ltb-tru
 use lib.Dec.{T, eqb, ltb, leb}
 use lib.ListN.{length}
 use Rattle.machine.specs.declared.Status.TheVariants.{Aok as aok, Hlt as hlt, Adr as adr, Ins as ins}
-use Rattle.machine.specs.declared.Window.{Window}
-use Rattle.machine.specs.declared.Window.TheVariants.{NoWindow as no_window, Within as within}
+use Rattle.machine.specs.Types.{Window}
+use Rattle.machine.specs.Types.{no_window, within}
 use Rattle.machine.specs.declared.Instruction.{Instruction}
 use Rattle.machine.specs.declared.Fault.{Fault}
-use Rattle.machine.specs.declared.Fault.TheVariants.{NoFault as no_fault, FirstMissing as first_missing, NoCode as no_code, NoFunction as no_function}
+use Rattle.machine.specs.Types.{Option, no_fault, faulty}
+use Rattle.machine.specs.declared.Fault.TheVariants.{FirstMissing as first_missing, NoCode as no_code, NoFunction as no_function}
 use Rattle.machine.specs.declared.Fault.TheVariants.{LaterMissing as later_missing, NoRegister as no_register}
 use Rattle.machine.specs.declared.Blame.{Blame}
 use Rattle.machine.specs.Words.{sum, number}
@@ -74,11 +75,11 @@ pub all_seen : (w : Window) (size a : ℕ) → w ≡ no_window → size ≡ seen
 unfolding seen_to
 all_seen w size a e = cc
 
-pub before_first : (w : Window) (size a first end n : ℕ) → w ≡ within first end → a < first → n ≡ min a size → n ≡ seen_to w size a
+pub before_first : (w : Window) (size a first end n : ℕ) → w ≡ within (first, end) → a < first → n ≡ min a size → n ≡ seen_to w size a
 unfolding seen_to
 before_first w size a first end n e h f = cc (lt-ltb a first h)
 
-pub to_the_end : (w : Window) (size a first end n : ℕ) → w ≡ within first end → first ≤ a → n ≡ min end size → n ≡ seen_to w size a
+pub to_the_end : (w : Window) (size a first end n : ℕ) → w ≡ within (first, end) → first ≤ a → n ≡ min end size → n ≡ seen_to w size a
 unfolding seen_to
 to_the_end w size a first end n e h f = cc (le-ltb a first h)
 
@@ -92,14 +93,14 @@ end_lent w b a n e = e
 pub end_inside : (w : Window) (size a n : ℕ) → n ≡ seen_to w size a → n ≤ size
 unfolding seen_to
 end_inside no_window size a n e = omega arith
-end_inside (within first end) size a n e = omega arith
+end_inside (within (first, end)) size a n e = omega arith
 
-pub outside : (m : Memory) (a n : ℕ) (r : Instruction) → n ≡ code_end m a → n ≤ a → r ≡ stopping a adr first_missing → r ≡ fetch m a
+pub outside : (m : Memory) (a n : ℕ) (r : Instruction) → n ≡ code_end m a → n ≤ a → r ≡ stopping a adr (faulty first_missing) → r ≡ fetch m a
 unfolding checked aok_at
 outside m a n r en h e = cc (fetch_is m a, le-leb n a h)
 
 module _ (m : Memory) (a n f : ℕ) (en : n ≡ code_end m a) (h : a < n) (ef : f ≡ (row_of (code_at m a)).functions) where
-  pub no_function_lem : (r : Instruction) (t : Fault) → not (ltb (M₁ m a % 16) f) ≡ true → t ≡ cond (eqb f 0) no_code no_function → r ≡ stopping a ins t → r ≡ fetch m a
+  pub no_function_lem : (r : Instruction) (t : Option Fault) → not (ltb (M₁ m a % 16) f) ≡ true → t ≡ cond (eqb f 0) (faulty no_code) (faulty no_function) → r ≡ stopping a ins t → r ≡ fetch m a
   unfolding checked not_in_table aok_at
   no_function_lem r t p et e = cc (fetch_is m a, lt-leb n a h, le-leb f (M₁ m a % 16) (ltb-false (M₁ m a % 16) f (not-true _ p)))
 
@@ -107,7 +108,7 @@ module _ (m : Memory) (a n f : ℕ) (en : n ≡ code_end m a) (h : a < n) (ef : 
     in_table : leb f (M₁ m a % 16) ≡ false
     in_table = lt-leb f (M₁ m a % 16) (ltb-true (M₁ m a % 16) f (not-false _ p))
 
-    pub cut_short : (r : Instruction) → not (leb z (n - a)) ≡ true → r ≡ stopping a adr later_missing → r ≡ fetch m a
+    pub cut_short : (r : Instruction) → not (leb z (n - a)) ≡ true → r ≡ stopping a adr (faulty later_missing) → r ≡ fetch m a
     unfolding checked aok_at
     cut_short r q e =
         let short = leb-false z (n - a) (not-true _ q) in
@@ -136,7 +137,7 @@ module _ (m : Memory) (a n f : ℕ) (en : n ≡ code_end m a) (h : a < n) (ef : 
           fetch_is m a ∙ rw (← en, lt-leb n a h, ← ef, in_table, long)
           (ap (λ (x : Bool). checked false false false x (eqb (code_at m a) 0) (aok_at m a (code_at m a))) tested)
 
-      pub names_none : (r : Instruction) → t ≡ true → r ≡ stopping a ins no_register → r ≡ fetch m a
+      pub names_none : (r : Instruction) → t ≡ true → r ≡ stopping a ins (faulty no_register) → r ≡ fetch m a
       unfolding checked aok_at
       names_none r k e = cc through
 
@@ -159,7 +160,7 @@ pub no_constant : (b : List ℕ) (at n : ℕ) → n ≤ 8 → 0 ≡ cond (ltb 8 
 no_constant b at n short = cc (le-ltb 8 n short)
 
 -- THE OPEN ENTRY
-pub refused : (m : Memory) (a : ℕ) (t : Bool) (i : Instruction) (x : Blame) → t ≡ size_refused (size m) → t ≡ true → i ≡ stopping a adr first_missing → x ≡ blame_of m i
+pub refused : (m : Memory) (a : ℕ) (t : Bool) (i : Instruction) (x : Blame) → t ≡ size_refused (size m) → t ≡ true → i ≡ stopping a adr (faulty first_missing) → x ≡ blame_of m i
     → record { number = 1; instruction = i; blame = x } ≡ fetch_answer m a
 unfolding fetch_answer lowest
 refused m a t i x e h s b = cc

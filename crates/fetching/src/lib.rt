@@ -5,6 +5,7 @@
 ghost use Rattle.std.specs.Prelude.{◌≡◌, cond, ◌+◌, ◌-◌, ◌≤◌, ◌<◌, min, eqb, ltb, length, get_or};
 ghost use Rattle.machine.specs.Memory.{lent, through, seen_to};
 ghost use Rattle.machine.specs.Words.{number};
+ghost use Rattle.machine.specs.Types.{faulty};
 ghost use Rattle.machine.specs.declared.Fault.TheVariants.{NoCode as no_code, NoFunction as no_function};
 ghost use Rattle.machine.specs.Fetch.{fetch as fetch_of, stopping as stopping_of, fault_at, blame_of};
 ghost use Rattle.machine.specs.Runs.{fetch_answer};
@@ -16,7 +17,7 @@ use lookup::{byte_of, functions_of, size_of};
 use machine::{Blame, Fault, FetchAnswer, HALT, Instruction, NONE, NOP, Status, Window};
 
 // An instruction fetched with a bad status travels as a nop with that status and its reason.
-fn stopping(address: u64, status: Status, fault: Fault) -> Instruction
+fn stopping(address: u64, status: Status, fault: Option<Fault>) -> Instruction
     ensures { result ≡ stopping_of address status fault }
 {
     Instruction {
@@ -33,13 +34,13 @@ fn stopping(address: u64, status: Status, fault: Fault) -> Instruction
 }
 
 // Of a code without functions the code is at fault, of any other the function.
-fn not_in_table(functions: u8) -> Fault
-    ensures { result ≡ cond (eqb functions 0) no_code no_function }
+fn not_in_table(functions: u8) -> Option<Fault>
+    ensures { result ≡ cond (eqb functions 0) (faulty no_code) (faulty no_function) }
 {
     if functions == 0 {
-        return Fault::NoCode;
+        return Some(Fault::NoCode);
     }
-    Fault::NoFunction
+    Some(Fault::NoFunction)
 }
 
 // A named register that is 15.
@@ -103,8 +104,8 @@ pub fn code_end(window: Window, size: u64, address: u64) -> u64
     ensures { result ≡ seen_to window size address }
 {
     match window {
-        Window::NoWindow => size,
-        Window::Within(first, end) => {
+        None => size,
+        Some((first, end)) => {
             if address < first {
                 lesser(address, size)
             } else {
@@ -120,7 +121,7 @@ pub fn instruction_at(window: Window, memory: &[u8], address: u64) -> Instructio
 {
     let n = code_end(window, memory.len() as u64, address);
     if n <= address {
-        return stopping(address, Status::Adr, Fault::FirstMissing);
+        return stopping(address, Status::Adr, Some(Fault::FirstMissing));
     }
     let at = address as usize;
     let first = memory[at];
@@ -135,17 +136,17 @@ pub fn instruction_at(window: Window, memory: &[u8], address: u64) -> Instructio
         return stopping(address, Status::Ins, unknown);
     }
     if !whole {
-        return stopping(address, Status::Adr, Fault::LaterMissing);
+        return stopping(address, Status::Adr, Some(Fault::LaterMissing));
     }
     let byte = byte_of(code);
     let pair = register_byte(memory, at, byte);
     let ra = pair / 16;
     let rb = pair % 16;
     if misnamed(byte, ra, rb) {
-        return stopping(address, Status::Ins, Fault::NoRegister);
+        return stopping(address, Status::Ins, Some(Fault::NoRegister));
     }
     if code == HALT {
-        return stopping(address, Status::Hlt, Fault::NoFault);
+        return stopping(address, Status::Hlt, None);
     }
     Instruction {
         address,
@@ -156,21 +157,21 @@ pub fn instruction_at(window: Window, memory: &[u8], address: u64) -> Instructio
         rb,
         constant: constant_of(memory, at, size),
         next: word::sum(address, size as u64),
-        fault: Fault::NoFault,
+        fault: None,
     }
 }
 
 // The byte at fault: the lowest missing address, the first byte, or the register byte.
-fn fault_at(window: Window, memory: &[u8], address: u64, fault: Fault) -> u64
+fn fault_at(window: Window, memory: &[u8], address: u64, fault: Option<Fault>) -> u64
     ensures { result ≡ fault_at (through window (lent memory.now)) address fault }
 {
     match fault {
-        Fault::NoFault => 0,
-        Fault::FirstMissing => address,
-        Fault::NoCode => address,
-        Fault::NoFunction => address,
-        Fault::LaterMissing => code_end(window, memory.len() as u64, address),
-        Fault::NoRegister => word::sum(address, 1),
+        None => 0,
+        Some(Fault::FirstMissing) => address,
+        Some(Fault::NoCode) => address,
+        Some(Fault::NoFunction) => address,
+        Some(Fault::LaterMissing) => code_end(window, memory.len() as u64, address),
+        Some(Fault::NoRegister) => word::sum(address, 1),
     }
 }
 
@@ -190,17 +191,17 @@ pub fn fetch(memory: &[u8], address: u64) -> FetchAnswer
     ensures { result ≡ fetch_answer (lent memory.now) address }
 {
     if size_refused(memory.len()) {
-        let missing = stopping(address, Status::Adr, Fault::FirstMissing);
+        let missing = stopping(address, Status::Adr, Some(Fault::FirstMissing));
         return FetchAnswer {
             number: 1,
             instruction: missing,
-            blame: blame_of(Window::NoWindow, memory, missing),
+            blame: blame_of(None, memory, missing),
         };
     }
-    let instruction = instruction_at(Window::NoWindow, memory, address);
+    let instruction = instruction_at(None, memory, address);
     FetchAnswer {
         number: 0,
         instruction,
-        blame: blame_of(Window::NoWindow, memory, instruction),
+        blame: blame_of(None, memory, instruction),
     }
 }

@@ -6,14 +6,14 @@ use lib.Dec.{ltb, eqb}
 use lib.ListN.{length}
 use Rattle.clock_laws.specs.Registers.{meets_none, value_after_w}
 use Rattle.machine.specs.declared.Codes.{Codes}
-use Rattle.clocked.specs.declared.StageD.{StageD}
-use Rattle.clocked.specs.declared.StageD.TheVariants.{BubbleD as bubble_d, InD as in_d}
-use Rattle.clocked.specs.declared.StageE.{StageE}
-use Rattle.clocked.specs.declared.StageE.TheVariants.{BubbleE as bubble_e, InE as in_e}
-use Rattle.clocked.specs.declared.StageM.{StageM}
-use Rattle.clocked.specs.declared.StageM.TheVariants.{BubbleM as bubble_m, InM as in_m}
-use Rattle.clocked.specs.declared.StageW.{StageW}
-use Rattle.clocked.specs.declared.StageW.TheVariants.{BubbleW as bubble_w, InW as in_w}
+use Rattle.clocked.specs.Record.{StageD}
+use Rattle.clocked.specs.Record.{bubble_d, in_d}
+use Rattle.clocked.specs.Record.{StageE}
+use Rattle.clocked.specs.Record.{bubble_e, in_e}
+use Rattle.clocked.specs.Record.{StageM}
+use Rattle.clocked.specs.Record.{bubble_m, in_m}
+use Rattle.clocked.specs.Record.{StageW}
+use Rattle.clocked.specs.Record.{bubble_w, in_w}
 use Rattle.machine.specs.Memory.{Memory, Registers, value, written}
 use Rattle.machine.specs.Stages.{decode, execute, access, new_registers, source_a, source_b}
 use Rattle.clocked.specs.Prediction.{Core, meets, awaited_a, load_use}

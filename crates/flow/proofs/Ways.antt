@@ -5,13 +5,13 @@ use Prim.Native.Nat.{ℕ}
 use lib.ListN.{length}
 use Rattle.machine.specs.declared.Codes.{Codes}
 use Rattle.machine.specs.declared.Instruction.{Instruction}
-use Rattle.clocked.specs.declared.StageD.{StageD}
-use Rattle.clocked.specs.declared.StageD.TheVariants.{BubbleD as bubble_d, InD as in_d}
-use Rattle.clocked.specs.declared.StageE.{StageE}
-use Rattle.clocked.specs.declared.StageE.TheVariants.{BubbleE as bubble_e}
-use Rattle.clocked.specs.declared.StageM.{StageM}
-use Rattle.clocked.specs.declared.StageM.TheVariants.{BubbleM as bubble_m}
-use Rattle.clocked.specs.declared.StageW.{StageW}
+use Rattle.clocked.specs.Record.{StageD}
+use Rattle.clocked.specs.Record.{bubble_d, in_d}
+use Rattle.clocked.specs.Record.{StageE}
+use Rattle.clocked.specs.Record.{bubble_e}
+use Rattle.clocked.specs.Record.{StageM}
+use Rattle.clocked.specs.Record.{bubble_m}
+use Rattle.clocked.specs.Record.{StageW}
 use Rattle.machine.specs.Memory.{Memory, Registers}
 use Rattle.machine.specs.Fetch.{fetch}
 use Rattle.clocked.specs.Prediction.{Core, predicted_next, meets}

@@ -1,13 +1,13 @@
 -- The stages' values through one clock, in the words of clocked's Pipeline: x is E's instruction after execution, y M's after its access.
 use Rattle.std.specs.Prelude.{ℕ, Bool, cond, ◌||◌}
 use Rattle.machine.specs.declared.Instruction.{Instruction}
-use Rattle.clocked.specs.declared.StageD.{StageD}
-use Rattle.clocked.specs.declared.StageD.TheVariants.{BubbleD as bubble_d, InD as in_d}
-use Rattle.clocked.specs.declared.StageE.{StageE}
-use Rattle.clocked.specs.declared.StageE.TheVariants.{BubbleE as bubble_e, InE as in_e}
-use Rattle.clocked.specs.declared.StageM.{StageM}
-use Rattle.clocked.specs.declared.StageM.TheVariants.{BubbleM as bubble_m}
-use Rattle.clocked.specs.declared.StageW.{StageW}
+use Rattle.clocked.specs.Record.{StageD}
+use Rattle.clocked.specs.Record.{bubble_d, in_d}
+use Rattle.clocked.specs.Record.{StageE}
+use Rattle.clocked.specs.Record.{bubble_e, in_e}
+use Rattle.clocked.specs.Record.{StageM}
+use Rattle.clocked.specs.Record.{bubble_m}
+use Rattle.clocked.specs.Record.{StageW}
 use Rattle.machine.specs.Memory.{Memory, Registers, value}
 use Rattle.machine.specs.Fetch.{fetch}
 use Rattle.machine.specs.Stages.{decode}

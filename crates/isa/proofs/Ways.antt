@@ -14,8 +14,8 @@ use lib.Signed.{lt_z}
 use borrow.Author.Tests.{eq-eqb, ne_eqb, lt-ltb, le-ltb, ltb-true, ltb-false}
 use Rattle.machine.specs.declared.Status.{Status}
 use Rattle.machine.specs.declared.Status.TheVariants.{Adr as adr}
-use Rattle.machine.specs.declared.Window.{Window}
-use Rattle.machine.specs.declared.Window.TheVariants.{NoWindow as no_window, Within as within}
+use Rattle.machine.specs.Types.{Window}
+use Rattle.machine.specs.Types.{no_window, within}
 use Rattle.machine.specs.declared.Codes.{Codes}
 use Rattle.machine.specs.declared.Instruction.{Instruction}
 use Rattle.machine.specs.declared.Decoded.{Decoded}
@@ -190,7 +190,7 @@ begins_within a first h = go (ltb first (a + 8)) refl
     go true e = cc (lt-ltb (first - a) 8 (omega (arith, ltb-true first (a + 8) e)))
     go false e = cc (le-ltb (first - a) 8 (omega (arith, ltb-false first (a + 8) e)))
 
-pub window_met : (w : Window) (first end a : ℕ) (b : Bool) → w ≡ within first end → b ≡ ltb first (a + 8)
+pub window_met : (w : Window) (first end a : ℕ) (b : Bool) → w ≡ within (first, end) → b ≡ ltb first (a + 8)
     → (ltb first end && (ltb a end && b)) ≡ meets_window w a
 unfolding meets_window
 window_met w first end a b e f = cc

@@ -74,8 +74,8 @@ fn meets_window(window: Window, a: u64) -> bool
     ensures { result ≡ meets_window window a }
 {
     match window {
-        Window::NoWindow => false,
-        Window::Within(first, end) => (first < end) & ((a < end) & reaches(a, first)),
+        None => false,
+        Some((first, end)) => (first < end) & ((a < end) & reaches(a, first)),
     }
 }
 

@@ -4,7 +4,7 @@ use Rattle.std.specs.Prelude.{Bool, true, false, cond, ◌≡◌, refl, eqb}
 use Rattle.std.proofs.Common.{true≢false, ap, sym}
 use mathlib.Core.List.{List, [], ◌∷◌}
 use Rattle.std.proofs.Math.ListN.{length}
-use Rattle.machine.specs.declared.Window.TheVariants.{NoWindow as no_window}
+use Rattle.machine.specs.Types.{no_window}
 use Rattle.machine.specs.Types.{is_bad}
 use Rattle.machine.specs.Memory.{Memory, size, through}
 use Rattle.machine.specs.Plain.{Plain, plain_start, is_stopped, steps}

@@ -10,7 +10,8 @@ use Rattle.std.proofs.Math.ListN.{get_or-eq_default}
 use Rattle.machine.specs.declared.Executed.{Executed}
 use Rattle.machine.specs.declared.Instruction.{Instruction}
 use Rattle.machine.specs.declared.Fault.{Fault}
-use Rattle.machine.specs.declared.Fault.TheVariants.{NoFault as no_fault, FirstMissing as first_missing, NoCode as no_code, NoFunction as no_function}
+use Rattle.machine.specs.Types.{Option, no_fault, faulty}
+use Rattle.machine.specs.declared.Fault.TheVariants.{FirstMissing as first_missing, NoCode as no_code, NoFunction as no_function}
 use Rattle.machine.specs.declared.Fault.TheVariants.{LaterMissing as later_missing, NoRegister as no_register}
 use Rattle.laws.specs.Memory.{length_placed}
 use Rattle.machine.specs.Words.{number, placed}
@@ -50,13 +51,13 @@ module _ (E : ℕ → Type 0) (u u' : Memory) (h : Alike E u u') where
   unfolding blame_of fault_at
   blame_alike i = cc (by i.fault)
     where
-      by : (f : Fault) → fault_at u i.address f ≡ fault_at u' i.address f
+      by : (f : Option Fault) → fault_at u i.address f ≡ fault_at u' i.address f
       by no_fault = refl
-      by first_missing = refl
-      by no_code = refl
-      by no_function = refl
-      by later_missing = end_alike i.address
-      by no_register = refl
+      by (faulty first_missing) = refl
+      by (faulty no_code) = refl
+      by (faulty no_function) = refl
+      by (faulty later_missing) = end_alike i.address
+      by (faulty no_register) = refl
 
 -- STORE
 set_both : (u u' : List ℕ) (a v x : ℕ) → length u ≡ length u' → get_or u x 0 ≡ get_or u' x 0 → get_or (set u a v) x 0 ≡ get_or (set u' a v) x 0

@@ -4,10 +4,10 @@ use Rattle.std.specs.Prelude.{ℕ, Bool, true, false, List, [], ◌∷◌, ◌++
 use Rattle.std.proofs.Common.{true≢false, ap, arith}
 use Rattle.machine.specs.declared.Status.{Status}
 use Rattle.machine.specs.declared.Status.TheVariants.{Hlt as hlt, Adr as adr}
-use Rattle.machine.specs.declared.Window.{Window}
-use Rattle.machine.specs.declared.Window.TheVariants.{NoWindow as no_window, Within as within}
-use Rattle.clocked.specs.declared.StageD.{StageD}
-use Rattle.clocked.specs.declared.StageD.TheVariants.{BubbleD as bubble_d, InD as in_d}
+use Rattle.machine.specs.Types.{Window}
+use Rattle.machine.specs.Types.{no_window, within}
+use Rattle.clocked.specs.Record.{StageD}
+use Rattle.clocked.specs.Record.{bubble_d, in_d}
 use Rattle.machine.specs.Types.{status_number}
 use Rattle.machine.specs.Memory.{Memory, lent, Registers}
 use Rattle.machine.specs.Plain.{Plain, is_stopped, steps}
@@ -149,10 +149,10 @@ behind_cut_off = (part_sound (plain_from (from 0 cut_off)) 1 refl 1 refl, λ h. 
 pub framed : ℕ → List ℕ
 framed b = 0x10 ∷ b ∷ []
 
-pub outside_the_window : NoPart (plain_from (seen_in (within 0 1) 0 (framed 0x00))) 1
-    × (figures (seen_in (within 0 1) 0 (framed 0x00)) (framed 0x10) 2 6 ≡ record { premise = true; no_part = true; plain_status = adr; status = adr; last = 1; retired = 2; cycles = 6 })
+pub outside_the_window : NoPart (plain_from (seen_in (within (0, 1)) 0 (framed 0x00))) 1
+    × (figures (seen_in (within (0, 1)) 0 (framed 0x00)) (framed 0x10) 2 6 ≡ record { premise = true; no_part = true; plain_status = adr; status = adr; last = 1; retired = 2; cycles = 6 })
 unfolding figures framed
-outside_the_window = (part_sound (plain_from (seen_in (within 0 1) 0 (framed 0x00))) 2 refl 1 refl, refl)
+outside_the_window = (part_sound (plain_from (seen_in (within (0, 1)) 0 (framed 0x00))) 2 refl 1 refl, refl)
 
 -- TIGHT
 -- the claim with another part P, and another premise Q
@@ -205,11 +205,11 @@ the_premise_is_needed d =
 
 -- with a window set it is not: of the same program the theorem speaks
 pub patched_same : (c : ℕ)
-    → let t = seen_in (within 0 32) 19 in
+    → let t = seen_in (within (0, 32)) 19 in
     SameClock (lent (patching 0x10)) (lent (patching 0x00)) (clocks core01 (piped_from (t (patching 0x10))) c) (clocks core01 (piped_from (t (patching 0x00))) c)
 unfolding figures patching
 patched_same =
-    let t = seen_in (within 0 32) 19 (patching 0x10) in
+    let t = seen_in (within (0, 32)) 19 (patching 0x10) in
     let s = plain_from t in
     let d = differs_sound (no_part s 3) (NoPart s) (lent (patching 0x10)) (lent (patching 0x00)) refl (part_sound s 3 refl) refl in
     (no_part_lem core01 t (lent (patching 0x00)) refl d 3 refl (λ o. absurd (true≢false o))).1

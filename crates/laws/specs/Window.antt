@@ -2,7 +2,7 @@
 use Rattle.std.specs.Prelude.{ℕ, zero, suc, ◌≡◌, refl, Bool, true, false, cond}
 use Rattle.std.proofs.Common.{ap, sym, ◌∙◌}
 use Rattle.machine.specs.declared.Executed.{Executed}
-use Rattle.machine.specs.declared.Window.{Window}
+use Rattle.machine.specs.Types.{Window}
 use Rattle.machine.specs.Types.{is_bad}
 use Rattle.machine.specs.Words.{placed}
 use Rattle.machine.specs.Memory.{Memory, holding, through, inside, store}

@@ -1,6 +1,6 @@
 -- Fetching an instruction: its own bytes alone decide.
 use Rattle.std.specs.Prelude.{ℕ, ◌-◌, ◌/◌, ◌%◌, Bool, true, false, cond, ◌&&◌, ◌||◌, List, ltb, leb, eqb, length, get_or, take, drop}
-use Rattle.machine.specs.Types.{Instruction, Status, aok, hlt, adr, ins, Fault, no_fault, first_missing, no_code, no_function, later_missing, no_register, Blame}
+use Rattle.machine.specs.Types.{Instruction, Status, aok, hlt, adr, ins, Option, Fault, no_fault, faulty, first_missing, no_code, no_function, later_missing, no_register, Blame}
 use Rattle.machine.specs.Words.{sum, number}
 use Rattle.machine.specs.Memory.{Memory, code_end}
 use Rattle.machine.specs.Table.{row_of, RegisterByte, no_byte, both_named, only_b, only_a}
@@ -14,7 +14,7 @@ unfoldable pub own_bytes : Memory → ℕ → List ℕ
 own_bytes m a = take (size_at m a) (drop a (take (code_end m a) m.bytes))
 
 -- "An instruction fetched with status not AOK travels as a nop with that status; its predicted address is its own." It "must name the reason" (02, #107)
-unfoldable pub stopping : ℕ → Status → Fault → Instruction
+unfoldable pub stopping : ℕ → Status → Option Fault → Instruction
 stopping a s f = record { address = a; status = s; code = 1; function = 0; ra = 15; rb = 15; constant = 0; next = a; fault = f }
 
 -- which halves of the register byte name a register; one that does not is a filler, and where there is no such byte none does
@@ -35,16 +35,16 @@ unfoldable pub misnamed : RegisterByte → ℕ → ℕ → Bool
 misnamed y a b = (names_a y && eqb a 15) || (names_b y && eqb b 15)
 
 -- "code, function" (02, #107): at fault is the code where the table has none of its functions
-unfoldable pub not_in_table : ℕ → Fault
-not_in_table code = cond (eqb (row_of code).functions 0) no_code no_function
+unfoldable pub not_in_table : ℕ → Option Fault
+not_in_table code = cond (eqb (row_of code).functions 0) (faulty no_code) (faulty no_function)
 
 -- "Fetch checks in order: first byte outside memory, ADR; code or function not in the table, INS; a later byte outside memory, ADR;
 -- a named register that is 15 .. INS. Only then is 0x00 HLT."
 unfoldable pub checked : (first_missing no_function later_missing misnamed halts : Bool) → Instruction → Instruction
-checked true f l r h i = stopping i.address adr first_missing
+checked true f l r h i = stopping i.address adr (faulty first_missing)
 checked false true l r h i = stopping i.address ins (not_in_table i.code)
-checked false false true r h i = stopping i.address adr later_missing
-checked false false false true h i = stopping i.address ins no_register
+checked false false true r h i = stopping i.address adr (faulty later_missing)
+checked false false false true h i = stopping i.address ins (faulty no_register)
 checked false false false false true i = stopping i.address hlt no_fault
 checked false false false false false i = i
 
@@ -71,13 +71,13 @@ unfoldable pub fetch : Memory → ℕ → Instruction
 fetch m a = parsed a (own_bytes m a)
 
 -- "the address of the byte at fault: the lowest missing address, or the first or the register byte" (02, #107), of an instruction at a; 0 for none
-unfoldable pub fault_at : Memory → ℕ → Fault → ℕ
+unfoldable pub fault_at : Memory → ℕ → Option Fault → ℕ
 fault_at m a no_fault = 0
-fault_at m a first_missing = a
-fault_at m a no_code = a
-fault_at m a no_function = a
-fault_at m a later_missing = code_end m a
-fault_at m a no_register = sum a 1
+fault_at m a (faulty first_missing) = a
+fault_at m a (faulty no_code) = a
+fault_at m a (faulty no_function) = a
+fault_at m a (faulty later_missing) = code_end m a
+fault_at m a (faulty no_register) = sum a 1
 
 unfoldable pub blame_of : Memory → Instruction → Blame
 blame_of m i = record { fault = i.fault; address = fault_at m i.address i.fault }

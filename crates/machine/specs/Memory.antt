@@ -28,7 +28,7 @@ size m = length m.bytes
 -- so before the window's first address there is not even a first byte
 unfoldable pub seen_to : Window → (n a : ℕ) → ℕ
 seen_to no_window n a = n
-seen_to (within first end) n a = min (cond (ltb a first) a end) n
+seen_to (within (first, end)) n a = min (cond (ltb a first) a end) n
 
 -- where the bytes end that an instruction at a may have: at N, or where the window ends
 unfoldable pub code_end : Memory → ℕ → ℕ

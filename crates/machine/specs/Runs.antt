@@ -1,6 +1,6 @@
 -- Budgets, logs, answers: the tests that refusals share, and what fetching, a fresh start and the plain run give back, refusals included.
 use Rattle.std.specs.Prelude.{ℕ, ◌+◌, Bool, false, cond, ◌||◌, List, [], ◌∷◌, ltb, leb, eqb, length}
-use Rattle.machine.specs.Types.{Window, no_window, within, Machine, Codes, FetchAnswer, adr, first_missing}
+use Rattle.machine.specs.Types.{Window, no_window, within, Machine, Codes, FetchAnswer, adr, faulty, first_missing}
 use Rattle.machine.specs.Memory.{Memory, size, through, Registers}
 use Rattle.machine.specs.Fetch.{fetch, blame_of, stopping}
 use Rattle.machine.specs.Plain.{Plain, plain_of, plain_start, steps}
@@ -28,7 +28,7 @@ log_refused (n ∷ ns) budget = ltb n budget || log_refused ns budget
 -- 5, of #113: a code window "first address and end, both at most N, the end not below the first; otherwise refusal 5"
 unfoldable pub window_refused : Window → (size : ℕ) → Bool
 window_refused no_window size = false
-window_refused (within first end) size = ltb size first || (ltb size end || ltb end first)
+window_refused (within (first, end)) size = ltb size first || (ltb size end || ltb end first)
 
 -- 6, of #109: "a fresh start address not below N becomes refusal 6"
 unfoldable pub start_refused : (size address : ℕ) → Bool
@@ -43,7 +43,7 @@ lowest (t ∷ ts) = cond t.1 t.0 (lowest ts)
 unfoldable pub fetch_answer : Memory → ℕ → FetchAnswer
 fetch_answer m a =
     let n = lowest ((1, size_refused (size m)) ∷ []) in
-    let i = cond (eqb n 0) (fetch m a) (stopping a adr first_missing) in
+    let i = cond (eqb n 0) (fetch m a) (stopping a adr (faulty first_missing)) in
     record { number = n; instruction = i; blame = blame_of m i }
 
 -- A FRESH START: 6 is "checked last". Refused, it gives back the record that was asked for, as it gives it back otherwise

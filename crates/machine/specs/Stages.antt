@@ -137,7 +137,7 @@ access_status x m = cond ((loads x.instruction || stores x.instruction) && not (
 -- "writes any window byte": the eight bytes from a on and the window have one in common, which an empty window has with none
 unfoldable pub meets_window : Window → ℕ → Bool
 meets_window no_window a = false
-meets_window (within first end) a = ltb first end && (ltb a end && ltb first (a + 8))
+meets_window (within (first, end)) a = ltb first end && (ltb a end && ltb first (a + 8))
 
 -- "a store that succeeds in M and writes any window byte" (02, #113), the same value or another
 unfoldable pub patches : Executed → Memory → Bool

@@ -2,6 +2,9 @@
 
 #![tactic(auto)]
 
+ghost use Rattle.std.specs.Prelude.{◌≡◌};
+ghost use Rattle.machine.specs.Types.{status_number, fault_number, faulty, codes_number, codes_from};
+
 // The codes that a rule names by themselves.
 pub const HALT: u8 = 0;
 
@@ -32,7 +35,7 @@ pub const MEMORY_LIMIT: usize = 65536;
 pub const PLAIN_LIMIT: u64 = 65536;
 
 // AOK, or why a machine stopped.
-#[derive(Clone, Copy)]
+#[derive(Clone, Copy, PartialEq, Eq)]
 pub enum Status {
     Aok,
     Hlt,
@@ -40,10 +43,24 @@ pub enum Status {
     Ins,
 }
 
-// Why a fetch failed, if it did: document 02's reasons (#107).
-#[derive(Clone, Copy)]
+// "Status: AOK 1, HLT 2, ADR 3, INS 4."
+impl From<Status> for u64 {
+    ghost from_gives = { λ s n. n ≡ status_number s };
+
+    #[tactic(auto, unfolding(crate::specs::Types::status_number))]
+    fn from(status: Status) -> u64 {
+        match status {
+            Status::Aok => 1,
+            Status::Hlt => 2,
+            Status::Adr => 3,
+            Status::Ins => 4,
+        }
+    }
+}
+
+// Why a fetch failed: document 02's reasons (#107).
+#[derive(Clone, Copy, PartialEq, Eq)]
 pub enum Fault {
-    NoFault,
     FirstMissing,
     NoCode,
     NoFunction,
@@ -51,27 +68,62 @@ pub enum Fault {
     NoRegister,
 }
 
+// The reasons' numbers, in document 02's order.
+impl From<Fault> for u64 {
+    ghost from_gives = { λ f n. n ≡ fault_number (faulty f) };
+
+    #[tactic(auto, unfolding(crate::specs::Types::fault_number))]
+    fn from(fault: Fault) -> u64 {
+        match fault {
+            Fault::FirstMissing => 1,
+            Fault::NoCode => 2,
+            Fault::NoFunction => 3,
+            Fault::LaterMissing => 4,
+            Fault::NoRegister => 5,
+        }
+    }
+}
+
 // The reason of a failed fetch, and the address of the byte at fault: none, and 0, where no fetch failed.
 #[derive(Clone, Copy)]
 pub struct Blame {
-    pub fault: Fault,
+    pub fault: Option<Fault>,
     pub address: u64,
 }
 
 // The condition codes ZF, SF and OF.
-#[derive(Clone, Copy)]
+#[derive(Clone, Copy, PartialEq, Eq)]
 pub struct Codes {
     pub zf: bool,
     pub sf: bool,
     pub of: bool,
 }
 
-// The code window: none, or from a first address up to an end, which is not in it.
-#[derive(Clone, Copy)]
-pub enum Window {
-    NoWindow,
-    Within(u64, u64),
+// "codes as 4ZF + 2SF + OF"
+impl From<Codes> for u64 {
+    ghost from_gives = { λ c n. n ≡ codes_number c };
+
+    #[tactic(auto, unfolding(crate::specs::Types::codes_number))]
+    fn from(codes: Codes) -> u64 {
+        4 * u64::from(codes.zf) + 2 * u64::from(codes.sf) + u64::from(codes.of)
+    }
 }
+
+impl From<u64> for Codes {
+    ghost from_gives = { λ n c. c ≡ codes_from n };
+
+    #[tactic(auto, unfolding(crate::specs::Types::codes_from))]
+    fn from(number: u64) -> Codes {
+        Codes {
+            zf: number / 4 == 1,
+            sf: number / 2 % 2 == 1,
+            of: number % 2 == 1,
+        }
+    }
+}
+
+// The code window, if there is one: its first address, and its end, which is not in it.
+pub type Window = Option<(u64, u64)>;
 
 // The plain engine's machine record; what a bad fetch that stopped it is blamed on and the code window come last.
 #[derive(Clone, Copy)]
@@ -97,7 +149,7 @@ pub struct Instruction {
     pub rb: u8,
     pub constant: u64,
     pub next: u64,
-    pub fault: Fault,
+    pub fault: Option<Fault>,
 }
 
 // What fetching answers: document 01's number, 0 or that of a refusal, the instruction, and what a bad fetch is blamed on.

@@ -17,15 +17,16 @@ use Rattle.clocked.specs.declared.Pipeline.{Pipeline}
 use Rattle.machine.specs.declared.Status.{Status}
 use Rattle.machine.specs.declared.Blame.{Blame}
 use Rattle.clocked.specs.declared.Kinds.{Kinds}
-use Rattle.clocked.specs.declared.Kept.{Kept}
-use Rattle.clocked.specs.declared.StageW.{StageW}
-use Rattle.clocked.specs.declared.StageW.TheVariants.{BubbleW as bubble_w, InW as in_w}
+use Rattle.clocked.specs.Record.{Kept}
+use Rattle.clocked.specs.Record.{StageW}
+use Rattle.clocked.specs.Record.{bubble_w, in_w}
 use Rattle.machine.specs.Types.{is_bad}
-use Rattle.machine.specs.declared.Window.TheVariants.{NoWindow as no_window}
+use Rattle.machine.specs.Types.{no_window}
 use Rattle.machine.specs.Memory.{Memory, through}
 use Rattle.clocked.specs.Prediction.{Core, core_of}
 use Rattle.clocked.specs.declared.Reason.{Reason}
-use Rattle.clocked.specs.declared.Reason.TheVariants.{Free as free, Waited as waited, WronglyGuessed as wrongly_guessed, Returned as returned, Patched as patched}
+use Rattle.clocked.specs.Record.{Option, free, because}
+use Rattle.clocked.specs.declared.Reason.TheVariants.{Waited as waited, WronglyGuessed as wrongly_guessed, Returned as returned, Patched as patched}
 use Rattle.clocked.specs.Charges.{counted, reason_from}
 use Rattle.clocked.specs.Pipeline.{Piped, piped_of, bad_in_w, memory_after, registers_after, retired_after, kinds_after, logged, clock, clocks}
 use Rattle.machine.specs.Runs.{laid}
@@ -54,13 +55,13 @@ pub record Under (n : ℕ) (t : Kinds) : Type 0 where
   pub returned : t.returned < n
   pub patched : t.patched < n
 
-counted_small : (n : ℕ) (t : Kinds) (r : Reason) → Under n t → Under (n + 3) (counted t r)
+counted_small : (n : ℕ) (t : Kinds) (r : Option Reason) → Under n t → Under (n + 3) (counted t r)
 unfolding counted
 counted_small n t free h = record { loaduse = omega arith; mispredict = omega arith; returned = omega arith; patched = omega arith }
-counted_small n t waited h = record { loaduse = omega arith; mispredict = omega arith; returned = omega arith; patched = omega arith }
-counted_small n t wrongly_guessed h = record { loaduse = omega arith; mispredict = omega arith; returned = omega arith; patched = omega arith }
-counted_small n t returned h = record { loaduse = omega arith; mispredict = omega arith; returned = omega arith; patched = omega arith }
-counted_small n t patched h = record { loaduse = omega arith; mispredict = omega arith; returned = omega arith; patched = omega arith }
+counted_small n t (because waited) h = record { loaduse = omega arith; mispredict = omega arith; returned = omega arith; patched = omega arith }
+counted_small n t (because wrongly_guessed) h = record { loaduse = omega arith; mispredict = omega arith; returned = omega arith; patched = omega arith }
+counted_small n t (because returned) h = record { loaduse = omega arith; mispredict = omega arith; returned = omega arith; patched = omega arith }
+counted_small n t (because patched) h = record { loaduse = omega arith; mispredict = omega arith; returned = omega arith; patched = omega arith }
 
 kinds_small : (g : Core) (n : ℕ) (w : StageW) (k : Kept) (t : Kinds) → Under n t → Under (n + 3) (kinds_after g w k t)
 unfolding kinds_after

@@ -5,7 +5,7 @@ use mathlib.Core.List.{List}
 use Prim.Native.Nat.{ℕ}
 use lib.Dec.{eqb, ltb, leb}
 use lib.ListN.{set}
-use Rattle.machine.specs.declared.Fault.TheVariants.{NoFault as no_fault}
+use Rattle.machine.specs.Types.{no_fault}
 use Rattle.machine.specs.declared.Blame.{Blame}
 use Rattle.machine.specs.declared.Instruction.{Instruction}
 use Rattle.machine.specs.declared.Decoded.{Decoded}
@@ -14,16 +14,16 @@ use Rattle.machine.specs.declared.Accessed.{Accessed}
 use Rattle.clocked.specs.declared.Retired.{Retired}
 use Rattle.clocked.specs.declared.Settings.{Settings}
 use Rattle.clocked.specs.declared.Pipeline.{Pipeline}
-use Rattle.clocked.specs.declared.StageD.{StageD}
-use Rattle.clocked.specs.declared.StageD.TheVariants.{BubbleD as bubble_d, InD as in_d}
-use Rattle.clocked.specs.declared.StageE.{StageE}
-use Rattle.clocked.specs.declared.StageE.TheVariants.{BubbleE as bubble_e, InE as in_e}
-use Rattle.clocked.specs.declared.StageM.{StageM}
-use Rattle.clocked.specs.declared.StageM.TheVariants.{BubbleM as bubble_m, InM as in_m}
-use Rattle.clocked.specs.declared.StageW.{StageW}
-use Rattle.clocked.specs.declared.StageW.TheVariants.{BubbleW as bubble_w, InW as in_w}
-use Rattle.clocked.specs.declared.Kept.{Kept}
-use Rattle.clocked.specs.declared.Kept.TheVariants.{NoneKept as none_kept, LastKept as last_kept}
+use Rattle.clocked.specs.Record.{StageD}
+use Rattle.clocked.specs.Record.{bubble_d, in_d}
+use Rattle.clocked.specs.Record.{StageE}
+use Rattle.clocked.specs.Record.{bubble_e, in_e}
+use Rattle.clocked.specs.Record.{StageM}
+use Rattle.clocked.specs.Record.{bubble_m, in_m}
+use Rattle.clocked.specs.Record.{StageW}
+use Rattle.clocked.specs.Record.{bubble_w, in_w}
+use Rattle.clocked.specs.Record.{Kept}
+use Rattle.clocked.specs.Record.{none_kept, last_kept}
 use Rattle.machine.specs.Memory.{Memory}
 use Rattle.machine.specs.Table.{row_of, is}
 use Rattle.machine.specs.Fetch.{blame_of, no_blame}

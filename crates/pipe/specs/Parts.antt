@@ -2,8 +2,8 @@
 use Rattle.std.specs.Prelude.{ℕ, Bool, cond, ◌||◌, List, [], ◌∷◌, eqb, set}
 use Rattle.clocked.specs.declared.Settings.{Settings}
 use Rattle.clocked.specs.declared.Pipeline.{Pipeline}
-use Rattle.clocked.specs.declared.StageW.{StageW}
-use Rattle.clocked.specs.declared.StageW.TheVariants.{BubbleW as bubble_w, InW as in_w}
+use Rattle.clocked.specs.Record.{StageW}
+use Rattle.clocked.specs.Record.{bubble_w, in_w}
 use Rattle.machine.specs.declared.Status.{Status}
 use Rattle.machine.specs.declared.Blame.{Blame}
 use Rattle.machine.specs.Fetch.{blame_of, no_blame}

@@ -31,7 +31,7 @@ pub fn as_in_01() -> Settings
     Settings {
         rule: 0,
         late: false,
-        window: Window::NoWindow,
+        window: None,
     }
 }
 
@@ -48,10 +48,10 @@ pub fn start(
     let fresh = Pipeline {
         settings,
         predicted: address,
-        d: StageD::BubbleD,
-        e: StageE::BubbleE,
-        m: StageM::BubbleM,
-        w: StageW::BubbleW,
+        d: None,
+        e: None,
+        m: None,
+        w: None,
         registers,
         codes,
         status: Status::Aok,
@@ -64,9 +64,9 @@ pub fn start(
             returned: 0,
             patched: 0,
         },
-        kept: Kept::NoneKept,
+        kept: None,
         blame: Blame {
-            fault: Fault::NoFault,
+            fault: None,
             address: 0,
         },
     };

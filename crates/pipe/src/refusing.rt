@@ -22,8 +22,8 @@ fn refused_in_d(d: StageD) -> bool
     ensures { result ≡ refused_in_d d }
 {
     match d {
-        StageD::BubbleD => false,
-        StageD::InD(i) => instruction_refused(i),
+        None => false,
+        Some(i) => instruction_refused(i),
     }
 }
 
@@ -31,8 +31,8 @@ fn refused_in_e(e: StageE) -> bool
     ensures { result ≡ refused_in_e e }
 {
     match e {
-        StageE::BubbleE => false,
-        StageE::InE(x) => {
+        None => false,
+        Some(x) => {
             let i = x.instruction;
             instruction_refused(i)
         }
@@ -43,8 +43,8 @@ fn refused_in_m(m: StageM) -> bool
     ensures { result ≡ refused_in_m m }
 {
     match m {
-        StageM::BubbleM => false,
-        StageM::InM(x) => {
+        None => false,
+        Some(x) => {
             let i = x.instruction;
             instruction_refused(i)
         }
@@ -55,8 +55,8 @@ fn refused_in_w(w: StageW) -> bool
     ensures { result ≡ refused_in_w w }
 {
     match w {
-        StageW::BubbleW => false,
-        StageW::InW(x) => {
+        None => false,
+        Some(x) => {
             let i = x.instruction;
             instruction_refused(i)
         }
@@ -67,8 +67,8 @@ fn refused_kept(kept: Kept) -> bool
     ensures { result ≡ refused_kept kept }
 {
     match kept {
-        Kept::NoneKept => false,
-        Kept::LastKept(k) => {
+        None => false,
+        Some(k) => {
             let i = k.instruction;
             instruction_refused(i)
         }

@@ -98,11 +98,11 @@ fn blame_in(settings: Settings, w: StageW, memory: &[u8]) -> Blame
 {
     let window = settings.window;
     match w {
-        StageW::BubbleW => Blame {
-            fault: Fault::NoFault,
+        None => Blame {
+            fault: None,
             address: 0,
         },
-        StageW::InW(x) => {
+        Some(x) => {
             let i = x.instruction;
             blame_of(window, memory, i)
         }

@@ -3,7 +3,7 @@ use Rattle.std.specs.Prelude.{◌≡◌, refl, Bool, true, false, cond, ℕ, zer
 use Rattle.std.proofs.Math.Path.{ap, sym}
 use Rattle.std.proofs.Common.{◌∙◌, arith}
 use mathlib.Core.List.{List, [], ◌∷◌, ◌++◌}
-use Rattle.machine.specs.declared.Window.TheVariants.{NoWindow as no_window}
+use Rattle.machine.specs.Types.{no_window}
 use Rattle.machine.specs.declared.Machine.{Machine}
 use Rattle.machine.specs.Memory.{Memory, size, through}
 use Rattle.machine.specs.Plain.{Plain, plain_of, step, steps}

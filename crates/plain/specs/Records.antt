@@ -6,7 +6,7 @@ use Rattle.machine.specs.declared.Accessed.{Accessed}
 use Rattle.machine.specs.declared.Blame.{Blame}
 use Rattle.machine.specs.declared.Status.{Status}
 use Rattle.machine.specs.declared.Status.TheVariants.{Aok as aok}
-use Rattle.machine.specs.declared.Window.TheVariants.{NoWindow as no_window}
+use Rattle.machine.specs.Types.{no_window}
 use Rattle.machine.specs.Memory.{Memory, through, written}
 use Rattle.machine.specs.Stages.{new_codes, new_registers, next_address}
 use Rattle.machine.specs.Plain.{plain_of, steps}

@@ -4,7 +4,7 @@
 
 ghost use Rattle.std.specs.Prelude.{◌≡◌, false, [], ◌∷◌, ℕ, ◌+◌, ◌≤◌, ◌<◌};
 ghost use Rattle.machine.specs.declared.Machine.{Machine as MachineOf};
-ghost use Rattle.machine.specs.declared.Window.TheVariants.{NoWindow as no_window};
+ghost use Rattle.machine.specs.Types.{no_window};
 ghost use Rattle.machine.specs.Types.{is_bad};
 ghost use Rattle.machine.specs.Memory.{lent, through, value as value_of};
 ghost use Rattle.machine.specs.Stages.{decode};
@@ -46,7 +46,7 @@ pub fn start(
         last: address,
         count: 0,
         blame: Blame {
-            fault: Fault::NoFault,
+            fault: None,
             address: 0,
         },
         window,

@@ -11,7 +11,7 @@ use Rattle.machine.specs.Stages
 use Rattle.machine.specs.Stages.{decode, execute, access, new_codes, new_memory, new_registers, next_address}
 use Rattle.machine.specs.Stages.{operated, operated_codes, condition, loads, stores, access_address, access_status}
 use Rattle.machine.specs.Plain.{Plain, is_stopped, fetched, decoded, executed, accessed, performed, stopped_by, step}
-use Rattle.published.specs.Names.{Status, aok, hlt, adr, Fault, no_fault, Blame, Codes, Instruction}
+use Rattle.published.specs.Names.{Status, aok, hlt, adr, Option, Fault, no_fault, Blame, Codes, Instruction}
 use Rattle.published.specs.Fetching.{M₁, M₈, aok_at, fetch_aok, aok_code, fetch_bad, fetch_halt}
 
 abbrev pub PC : Plain → ℕ
@@ -246,7 +246,7 @@ stored m a v h = rw h
 
 -- THE STOPPING INSTRUCTION
 -- fetched with HLT, ADR or INS
-stops_by : (s : Plain) (bad : Status) (f : Fault) → is_stopped s ≡ false → is_bad bad ≡ true → fetched s ≡ stopping (PC s) bad f → step s ≡ stopped s bad (blame_of s.memory (stopping (PC s) bad f))
+stops_by : (s : Plain) (bad : Status) (f : Option Fault) → is_stopped s ≡ false → is_bad bad ≡ true → fetched s ≡ stopping (PC s) bad f → step s ≡ stopped s bad (blame_of s.memory (stopping (PC s) bad f))
 unfolding step decoded executed accessed stopped_by access access_status execute decode loads Stages.loading stores Stages.storing row_of table stopping
 stops_by s bad f r h e = rw (r, e, h)
 

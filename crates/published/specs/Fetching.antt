@@ -47,7 +47,7 @@ code_end_within m a = go m.window
   where
     go : (w : Window) → seen_to w (size m) a ≤ size m
     go no_window = omega arith
-    go (within first end) = omega arith
+    go (within (first, end)) = omega arith
 
 -- its own bytes are those of memory
 own : (m : Memory) (a n j : ℕ) → j < n → a + j < code_end m a → get_or (take n (drop a (take (code_end m a) m.bytes))) j 0 ≡ M₁ m (a + j)

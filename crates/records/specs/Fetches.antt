@@ -5,7 +5,7 @@ use Rattle.machine.specs.Types.{status_number, fault_number}
 use Rattle.machine.specs.Fetch.{fetch, blame_of}
 use Rattle.machine.specs.Plain.{plain_start}
 use Rattle.machine.specs.Runs.{fetch_answer}
-use Rattle.records.specs.Names.{no_window, adr, ins, later_missing, Instruction, FetchAnswer}
+use Rattle.records.specs.Names.{no_window, adr, ins, faulty, later_missing, Instruction, FetchAnswer}
 use Rattle.records.specs.Given.{image, filled, empty, given, coded, nop, popq, blamed_for, F, W}
 use Rattle.records.specs.Looks.{Row, Look, answers, clocked, numbers, predicted, d, address, fetch_status, code, function, ra, rb, constant, next, fault}
 use Rattle.records.specs.Looks.{blamed, blamed_at, status, last, performed, plain_fault, plain_fault_at, plain_status}
@@ -129,7 +129,7 @@ rows_of_fetch =
     ∷ clocked "R4.5 the pipeline: the first byte, beyond N" (F 9 ∷ []) (image 5 0 0) 5 ((status, 3) ∷ (last, 9) ∷ (blamed, 1) ∷ (blamed_at, 9) ∷ [])
     ∷ clocked "R4.5 the pipeline: halt has none" [] (image 5 0 0) 5 ((status, 2) ∷ (blamed, 0) ∷ (blamed_at, 0) ∷ [])
     ∷ clocked "R4.5 the pipeline: an access outside has none" (W (popq 1 7) 0 true 0 adr ∷ []) (image 5 0 0) 1 ((status, 3) ∷ (last, 7) ∷ (blamed, 0) ∷ (blamed_at, 0) ∷ [])
-    ∷ clocked "R4.5 the pipeline: what the instruction in W carries, and memory as it then is" (W (blamed_for later_missing (nop 7)) 0 true 0 ins ∷ []) (image 20 0 0) 1
+    ∷ clocked "R4.5 the pipeline: what the instruction in W carries, and memory as it then is" (W (blamed_for (faulty later_missing) (nop 7)) 0 true 0 ins ∷ []) (image 20 0 0) 1
     ((status, 4) ∷ (last, 7) ∷ (blamed, 4) ∷ (blamed_at, 20) ∷ [])
     ∷ performed "R4.5 the plain engine: function, none before it" (plain_start no_window (given []) (coded 4) 0) (image 5 5 0x10_91_101010) 1 (0 ∷ []) ((plain_fault, 0) ∷ [])
     ∷ performed "R4.5 the plain engine: function" (plain_start no_window (given []) (coded 4) 0) (image 5 5 0x10_91_101010) 2 (0 ∷ 0 ∷ [])

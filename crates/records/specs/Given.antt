@@ -4,7 +4,7 @@ use Rattle.machine.specs.Memory.{Memory, lent, Registers}
 use Rattle.machine.specs.Table.{unknown_code}
 use Rattle.clocked.specs.Prediction.{as_in_01}
 use Rattle.clocked.specs.Pipeline.{pipe_start}
-use Rattle.records.specs.Names.{Status, aok, Fault, no_fault, Codes, Instruction, StageD, in_d, StageE, in_e, StageM, in_m, StageW, in_w, Kept, last_kept, Kinds}
+use Rattle.records.specs.Names.{Status, aok, Option, Fault, no_fault, Codes, Instruction, StageD, in_d, StageE, in_e, StageM, in_m, StageW, in_w, Kept, last_kept, Kinds}
 use Rattle.records.specs.Names.{Settings, no_window, within, Pipeline}
 
 -- MEMORY
@@ -95,7 +95,7 @@ fetched_as s i =
     }
 
 -- and with a reason of its fetch
-abbrev pub blamed_for : Fault → Instruction → Instruction
+abbrev pub blamed_for : Option Fault → Instruction → Instruction
 blamed_for f i =
     record {
       address = i.address;
@@ -208,7 +208,7 @@ late n = settled (record { rule = n; late = true; window = no_window })
 
 -- a code window, the other settings as they are
 abbrev pub window : (first end : ℕ) → Change
-window first end k = settled (record { rule = k.settings.rule; late = k.settings.late; window = within first end }) k
+window first end k = settled (record { rule = k.settings.rule; late = k.settings.late; window = within (first, end) }) k
 
 -- F holds this address; D, E, M and W this instruction, with what it carries there
 abbrev pub F : ℕ → Change

@@ -42,7 +42,7 @@ charged s i j t n =
 
 -- a plain start at 0 of an irmovq, seen through a window
 abbrev plain_within : (first end : ℕ) → Machine
-plain_within first end = plain_start (within first end) (given []) (coded 4) 0
+plain_within first end = plain_start (within (first, end)) (given []) (coded 4) 0
 
 unfoldable pub rows_of_patches : List Row
 rows_of_patches =
@@ -100,9 +100,9 @@ rows_of_patches =
     ∷ numbers "R14.1 plain: 5: the window at its ends"
     (plain 0 60 ∷ plain 60 60 ∷ plain 0 0 ∷ plain 0 61 ∷ plain 61 61 ∷ plain 61 60 ∷ plain 31 30 ∷ []) (0 ∷ 0 ∷ 0 ∷ 5 ∷ 5 ∷ 5 ∷ 5 ∷ [])
     ∷ numbers "R14.2 plain: 1, 3 and 4 before 5"
-    (plain_refuses (within 2 1) 0 0 1 [] ∷ plain_refuses (within 2 1) 60 0 0 [] ∷ plain_refuses (within 2 1) 60 0 1 (0 ∷ []) ∷ []) (1 ∷ 3 ∷ 4 ∷ [])
+    (plain_refuses (within (2, 1)) 0 0 1 [] ∷ plain_refuses (within (2, 1)) 60 0 0 [] ∷ plain_refuses (within (2, 1)) 60 0 1 (0 ∷ []) ∷ []) (1 ∷ 3 ∷ 4 ∷ [])
     ∷ numbers "R14.7 a fresh start: 1 before 5 before 6"
-    (start_refusal (within 2 1) 0 0 ∷ start_refusal (within 2 1) 60 60 ∷ start_refusal (within 0 60) 60 60 ∷ start_refusal (within 0 60) 60 59 ∷ []) (1 ∷ 5 ∷ 6 ∷ 0 ∷ [])
+    (start_refusal (within (2, 1)) 0 0 ∷ start_refusal (within (2, 1)) 60 60 ∷ start_refusal (within (0, 60)) 60 60 ∷ start_refusal (within (0, 60)) 60 59 ∷ []) (1 ∷ 5 ∷ 6 ∷ 0 ∷ [])
     ∷ numbers "R14.7 a fresh start of the pipeline" (start 0 61 0 ∷ start 2 1 60 ∷ start 0 60 60 ∷ start 0 60 59 ∷ []) (5 ∷ 5 ∷ 6 ∷ 0 ∷ [])
     ∷ numbers "R14.1 5: a fourth kind above cycles"
     (pipe_refusal (with (patches 1 ∷ [])) 60 1 [] ∷ pipe_refusal (with (patches 40 ∷ counts 0 40 0 0 0 ∷ [])) 60 1 [] ∷ []) (5 ∷ 0 ∷ [])
@@ -112,7 +112,7 @@ rows_of_patches =
     run first end = pipe_refusal (with (window first end ∷ [])) 60 1 []
 
     plain : (first end : ℕ) → ℕ
-    plain first end = plain_refuses (within first end) 60 0 1 []
+    plain first end = plain_refuses (within (first, end)) 60 0 1 []
 
     start : (first end address : ℕ) → ℕ
     start first end a = pipe_start_refusal (with (window first end ∷ [])).settings 60 a

@@ -5,8 +5,9 @@ use mathlib.Core.List.{List, [], ◌∷◌}
 use Prim.Native.Nat.{ℕ}
 use borrow.Author.Tests.{eq-eqb, ne_eqb}
 use lib.Dec.{eqb, ltb}
-use Rattle.machine.specs.declared.Window.{Window}
-use Rattle.machine.specs.declared.Window.TheVariants.{NoWindow as no_window, Within as within}
+use Rattle.std.specs.Prelude.{MatchOption}
+use Rattle.machine.specs.Types.{Window, no_window, within, Option, no_fault, faulty}
+use Rattle.machine.specs.declared.Fault.{Fault}
 use Rattle.clocked.specs.declared.Pipeline.{Pipeline}
 use Rattle.machine.specs.Types.{status_number, fault_number, codes_number}
 use Rattle.machine.specs.Runs.{size_refused, budget_refused, window_refused, start_refused, lowest}
@@ -27,19 +28,25 @@ pub full_is : (k : Pipeline) (b b' : List ℕ) (s c f : ℕ) → s ≡ status_nu
 unfolding full_words result_words
 full_is k b b' s c f e g h i = cc
 
+-- none is 0
+pub fault_mapped : (f : Option Fault) (n : ℕ) → MatchOption f (n ≡ 0) (λ x. n ≡ fault_number (faulty x)) → n ≡ fault_number f
+unfolding fault_number
+fault_mapped no_fault n h = h
+fault_mapped (faulty x) n h = h
+
 -- THE SETTINGS
-pub windowed_is : (w f e : ℕ) → w ≡ 1 → within f e ≡ cond (eqb w 1) (within f e) no_window
+pub windowed_is : (w f e : ℕ) → w ≡ 1 → ◌≡◌ {A = Window} (within (f, e)) (cond (eqb w 1) (within (f, e)) no_window)
 windowed_is w f e h = cc (eq-eqb w 1 h)
 
-pub unwindowed_is : (w f e : ℕ) → (w ≡ 1 → ⊥) → no_window ≡ cond (eqb w 1) (within f e) no_window
+pub unwindowed_is : (w f e : ℕ) → (w ≡ 1 → ⊥) → ◌≡◌ {A = Window} no_window (cond (eqb w 1) (within (f, e)) no_window)
 unwindowed_is w f e h = cc (ne_eqb w 1 h)
 
-pub settings_are : (r l w f e : ℕ) (x : Window) → x ≡ cond (eqb w 1) (within f e) no_window
+pub settings_are : (r l w f e : ℕ) (x : Window) → x ≡ cond (eqb w 1) (within (f, e)) no_window
     → record { rule = r; late = eqb l 1; window = x } ≡ settings_of (numbers r l w f e)
 unfolding settings_of window_of
 settings_are r l w f e x h = cc
 
-pub numbers_are : (r l w f e size : ℕ) (x : Window) (b : Bool) → x ≡ cond (eqb w 1) (within f e) no_window → b ≡ window_refused x size
+pub numbers_are : (r l w f e size : ℕ) (x : Window) (b : Bool) → x ≡ cond (eqb w 1) (within (f, e)) no_window → b ≡ window_refused x size
     → (ltb 1 l || (ltb 1 w || (ltb 2 r || b))) ≡ numbers_refused (numbers r l w f e) size
 unfolding numbers_refused settings_of window_of settings_refused
 numbers_are r l w f e size x b h g = cc

@@ -1,7 +1,7 @@
 -- Both ends of a replay at the host edge: the settings, the refusals, and the result words.
 use Rattle.std.specs.Prelude.{ℕ, Bool, false, cond, not, ◌||◌, List, [], ◌∷◌, ◌++◌, eqb, ltb}
-use Rattle.machine.specs.declared.Window.{Window}
-use Rattle.machine.specs.declared.Window.TheVariants.{NoWindow as no_window, Within as within}
+use Rattle.machine.specs.Types.{Window}
+use Rattle.machine.specs.Types.{no_window, within}
 use Rattle.clocked.specs.declared.Settings.{Settings}
 use Rattle.clocked.specs.declared.Pipeline.{Pipeline}
 use Rattle.machine.specs.Types.{status_number, fault_number, codes_number}
@@ -21,7 +21,7 @@ abbrev pub numbers : (rule late windowed first end : ℕ) → Numbers
 numbers r l w f e = record { rule = r; late = l; windowed = w; first = f; end = e }
 
 unfoldable pub window_of : Numbers → Window
-window_of n = cond (eqb n.windowed 1) (within n.first n.end) no_window
+window_of n = cond (eqb n.windowed 1) (within (n.first, n.end)) no_window
 
 unfoldable pub settings_of : Numbers → Settings
 settings_of n = record { rule = n.rule; late = eqb n.late 1; window = window_of n }

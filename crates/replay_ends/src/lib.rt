@@ -8,7 +8,7 @@ ghost use Rattle.std.specs.Prelude.{◌≡◌, length};
 ghost use Rattle.block.specs.Block.{with_words};
 ghost use Rattle.replay_ends.specs.Ends.{replay_refusal, result_words, full_words};
 
-use block::{fault_number, status_number, write_words};
+use block::write_words;
 use clocked::{PIPE_LIMIT, Pipeline};
 
 // The block of fifteen registers, and the greatest number that codes have.
@@ -58,9 +58,9 @@ pub fn write_result(res: &mut [u8], end: Pipeline)
     let status = end.status;
     let codes = end.codes;
     let words = [
-        status_number(status),
+        u64::from(status),
         end.last,
-        answers::codes_number(codes),
+        u64::from(codes),
         end.retired,
         end.cycles,
     ];
@@ -78,16 +78,16 @@ pub fn write_full(res: &mut [u8], last: Pipeline)
     let blame = last.blame;
     let fault = blame.fault;
     let words = [
-        status_number(status),
+        u64::from(status),
         last.last,
-        answers::codes_number(codes),
+        u64::from(codes),
         last.retired,
         last.cycles,
         kinds.loaduse,
         kinds.mispredict,
         kinds.returned,
         kinds.patched,
-        fault_number(fault),
+        fault.map_or(0, u64::from),
         blame.address,
     ];
     write_words(res, &words);

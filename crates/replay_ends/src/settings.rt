@@ -1,6 +1,6 @@
 // The settings of a replay, by five numbers.
 ghost use Rattle.std.specs.Prelude.{◌≡◌, cond, ◌<◌, eqb};
-ghost use Rattle.machine.specs.declared.Window.TheVariants.{NoWindow as no_window, Within as within};
+ghost use Rattle.machine.specs.Types.{no_window, within};
 ghost use Rattle.replay_ends.specs.Ends.{numbers, settings_of, numbers_refused};
 
 use answers::window_refused;
@@ -12,12 +12,12 @@ const YES: u64 = 1;
 
 // First and end are looked at only where there is a window.
 fn window_of(windowed: u64, first: u64, end: u64) -> Window
-    ensures { result ≡ cond (eqb windowed 1) (within first end) no_window }
+    ensures { result ≡ cond (eqb windowed 1) (within (first, end)) no_window }
 {
     if windowed == YES {
-        return Window::Within(first, end);
+        return Some((first, end));
     }
-    Window::NoWindow
+    None
 }
 
 pub fn settings_of(rule: u64, late: u64, windowed: u64, first: u64, end: u64) -> Settings

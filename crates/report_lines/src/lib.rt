@@ -42,7 +42,7 @@ pub fn put_counts(buffer: &mut [u8], at: usize, end: Pipeline) -> usize
 {
     let codes = end.codes;
     let a = put_number(buffer, at, b"last", end.last);
-    let b = put_number(buffer, a, b"codes", answers::codes_number(codes));
+    let b = put_number(buffer, a, b"codes", u64::from(codes));
     let c = put_number(buffer, b, b"retired", end.retired);
     put_number(buffer, c, b"cycles", end.cycles)
 }

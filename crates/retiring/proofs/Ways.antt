@@ -8,12 +8,13 @@ use Rattle.machine.specs.declared.Status.TheVariants.{Aok as aok}
 use Rattle.machine.specs.declared.Instruction.{Instruction}
 use Rattle.machine.specs.declared.Accessed.{Accessed}
 use Rattle.clocked.specs.declared.Retired.{Retired}
-use Rattle.clocked.specs.declared.StageW.{StageW}
-use Rattle.clocked.specs.declared.StageW.TheVariants.{BubbleW as bubble_w, InW as in_w}
-use Rattle.clocked.specs.declared.Kept.{Kept}
-use Rattle.clocked.specs.declared.Kept.TheVariants.{NoneKept as none_kept, LastKept as last_kept}
+use Rattle.clocked.specs.Record.{StageW}
+use Rattle.clocked.specs.Record.{bubble_w, in_w}
+use Rattle.clocked.specs.Record.{Kept}
+use Rattle.clocked.specs.Record.{none_kept, last_kept}
 use Rattle.clocked.specs.declared.Reason.{Reason}
-use Rattle.clocked.specs.declared.Reason.TheVariants.{Free as free, Waited as waited, WronglyGuessed as wrongly_guessed, Returned as returned, Patched as patched}
+use Rattle.clocked.specs.Record.{Option, free, because}
+use Rattle.clocked.specs.declared.Reason.TheVariants.{Waited as waited, WronglyGuessed as wrongly_guessed, Returned as returned, Patched as patched}
 use Rattle.clocked.specs.declared.Kinds.{Kinds}
 use Rattle.machine.specs.Types.{is_bad}
 use Rattle.machine.specs.Table.{is}
@@ -25,23 +26,23 @@ use Rattle.retiring.specs.declared.Tally.{Tally}
 use Rattle.retiring.specs.Retiring.{kept_by, retires, status_after, tally_after}
 
 -- why an instruction is charged, by its predecessor
-pub patched_before : (g : Core) (k : Retired) (j : Instruction) → k.patched ≡ true → patched ≡ reason_behind g k j
+pub patched_before : (g : Core) (k : Retired) (j : Instruction) → k.patched ≡ true → because patched ≡ reason_behind g k j
 unfolding reason_behind
 patched_before g k j h = cc
 
 module _ (g : Core) (k : Retired) (j : Instruction) (l a s : ℕ) (b c : Bool) (whole : k.patched ≡ false) (el : l ≡ loaded_target k.instruction) (ea : a ≡ awaited_a g j)
     (es : s ≡ source_b j) (eb : b ≡ (meets l a || meets l s)) where
-  pub loaded_before : b ≡ true → waited ≡ reason_behind g k j
+  pub loaded_before : b ≡ true → because waited ≡ reason_behind g k j
   unfolding reason_behind load_use
   loaded_before h = cc
 
   module _ (h : b ≡ false) (ec : c ≡ mispredicted g k.instruction k.holds) where
-    pub jumped_before : c && not (eqb k.instruction.function 0) ≡ true → wrongly_guessed ≡ reason_behind g k j
+    pub jumped_before : c && not (eqb k.instruction.function 0) ≡ true → because wrongly_guessed ≡ reason_behind g k j
     unfolding reason_behind load_use
     jumped_before t = cc
 
     module _ (t : c && not (eqb k.instruction.function 0) ≡ false) where
-      pub returned_before : k.instruction.code ≡ 9 → returned ≡ reason_behind g k j
+      pub returned_before : k.instruction.code ≡ 9 → because returned ≡ reason_behind g k j
       unfolding reason_behind load_use is
       returned_before r = cc (eq-eqb k.instruction.code 9 r)
 
@@ -53,31 +54,31 @@ pub uncharged : (g : Core) (k : Kept) (j : Instruction) → k ≡ none_kept → 
 unfolding reason_from
 uncharged g k j h = cc
 
-pub charged : (g : Core) (k : Kept) (j : Instruction) (x : Retired) (r : Reason) → k ≡ last_kept x → r ≡ reason_behind g x j → r ≡ reason_from g k j
+pub charged : (g : Core) (k : Kept) (j : Instruction) (x : Retired) (r : Option Reason) → k ≡ last_kept x → r ≡ reason_behind g x j → r ≡ reason_from g k j
 unfolding reason_from
 charged g k j x r h p = cc
 
 -- the counts, by the reason
-pub none_counted : (t : Kinds) (r : Reason) → r ≡ free → t ≡ counted t r
+pub none_counted : (t : Kinds) (r : Option Reason) → r ≡ free → t ≡ counted t r
 unfolding counted
 none_counted t r h = cc
 
-pub wait_counted : (t : Kinds) (r : Reason) → r ≡ waited
+pub wait_counted : (t : Kinds) (r : Option Reason) → r ≡ because waited
     → record { loaduse = t.loaduse + 1; mispredict = t.mispredict; returned = t.returned; patched = t.patched } ≡ counted t r
 unfolding counted
 wait_counted t r h = cc
 
-pub guess_counted : (t : Kinds) (r : Reason) → r ≡ wrongly_guessed
+pub guess_counted : (t : Kinds) (r : Option Reason) → r ≡ because wrongly_guessed
     → record { loaduse = t.loaduse; mispredict = t.mispredict + 2; returned = t.returned; patched = t.patched } ≡ counted t r
 unfolding counted
 guess_counted t r h = cc
 
-pub return_counted : (t : Kinds) (r : Reason) → r ≡ returned
+pub return_counted : (t : Kinds) (r : Option Reason) → r ≡ because returned
     → record { loaduse = t.loaduse; mispredict = t.mispredict; returned = t.returned + 3; patched = t.patched } ≡ counted t r
 unfolding counted
 return_counted t r h = cc
 
-pub patch_counted : (t : Kinds) (r : Reason) → r ≡ patched
+pub patch_counted : (t : Kinds) (r : Option Reason) → r ≡ because patched
     → record { loaduse = t.loaduse; mispredict = t.mispredict; returned = t.returned; patched = t.patched + 3 } ≡ counted t r
 unfolding counted
 patch_counted t r h = cc
@@ -99,7 +100,7 @@ pub only_a_cycle : (g : Core) (t : Tally) (w : StageW) (k : Kept) → w ≡ bubb
 unfolding tally_after last_after retired_after kinds_after kept_after bad_in_w
 only_a_cycle g t w k h e = cc
 
-pub one_retired : (g : Core) (t : Tally) (w : StageW) (x : Accessed) (r : Reason) (s : Kinds) (k : Kept) → w ≡ in_w x → r ≡ reason_from g t.kept x.instruction
+pub one_retired : (g : Core) (t : Tally) (w : StageW) (x : Accessed) (r : Option Reason) (s : Kinds) (k : Kept) → w ≡ in_w x → r ≡ reason_from g t.kept x.instruction
     → s ≡ counted t.kinds r → k ≡ kept_by x t.kept
     → record { last = x.instruction.address; retired = t.retired + 1; cycles = t.cycles + 1; kinds = s; kept = k } ≡ tally_after g t w
 unfolding tally_after last_after retired_after kinds_after kept_after bad_in_w kept_by

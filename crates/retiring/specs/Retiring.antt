@@ -3,10 +3,10 @@ use Rattle.std.specs.Prelude.{ℕ, ◌+◌, ◌<◌, Bool, true, false, cond}
 use Rattle.machine.specs.declared.Status.{Status}
 use Rattle.machine.specs.declared.Status.TheVariants.{Aok as aok}
 use Rattle.machine.specs.declared.Accessed.{Accessed}
-use Rattle.clocked.specs.declared.StageW.{StageW}
-use Rattle.clocked.specs.declared.StageW.TheVariants.{BubbleW as bubble_w, InW as in_w}
-use Rattle.clocked.specs.declared.Kept.{Kept}
-use Rattle.clocked.specs.declared.Kept.TheVariants.{LastKept as last_kept}
+use Rattle.clocked.specs.Record.{StageW}
+use Rattle.clocked.specs.Record.{bubble_w, in_w}
+use Rattle.clocked.specs.Record.{Kept}
+use Rattle.clocked.specs.Record.{last_kept}
 use Rattle.machine.specs.Types.{is_bad}
 use Rattle.clocked.specs.Prediction.{Core}
 use Rattle.clocked.specs.Charges.{retired_of}

@@ -25,61 +25,61 @@ pub struct Tally {
 }
 
 // Why an instruction is charged, by its predecessor.
-fn reason_behind(settings: Settings, k: Retired, j: Instruction) -> Reason
+fn reason_behind(settings: Settings, k: Retired, j: Instruction) -> Option<Reason>
     ensures { result ≡ reason_behind (core_of settings) k j }
 {
     let i = k.instruction;
     if k.patched {
-        return Reason::Patched;
+        return Some(Reason::Patched);
     }
     if meets_either(loaded_target(i), awaited_a(settings, j), source_b(j)) {
-        return Reason::Waited;
+        return Some(Reason::Waited);
     }
     if mispredicted(settings, i, k.holds) & (i.function != 0) {
-        return Reason::WronglyGuessed;
+        return Some(Reason::WronglyGuessed);
     }
     if i.code == RET {
-        return Reason::Returned;
+        return Some(Reason::Returned);
     }
-    Reason::Free
+    None
 }
 
 // With none kept the charge is 0.
-pub fn reason_from(settings: Settings, kept: Kept, j: Instruction) -> Reason
+pub fn reason_from(settings: Settings, kept: Kept, j: Instruction) -> Option<Reason>
     ensures { result ≡ reason_from (core_of settings) kept j }
 {
     match kept {
-        Kept::NoneKept => Reason::Free,
-        Kept::LastKept(k) => reason_behind(settings, k, j),
+        None => None,
+        Some(k) => reason_behind(settings, k, j),
     }
 }
 
 // "The cycle counts kept by kind sum the charges."
-fn count(kinds: Kinds, reason: Reason) -> Kinds
+fn count(kinds: Kinds, reason: Option<Reason>) -> Kinds
     requires { (kinds.loaduse < 2000000) × (kinds.mispredict < 2000000) × (kinds.returned < 2000000) × (kinds.patched < 2000000) }
     ensures { result ≡ counted_of kinds reason }
 {
     match reason {
-        Reason::Free => kinds,
-        Reason::Waited => Kinds {
+        None => kinds,
+        Some(Reason::Waited) => Kinds {
             loaduse: kinds.loaduse + 1,
             mispredict: kinds.mispredict,
             returned: kinds.returned,
             patched: kinds.patched,
         },
-        Reason::WronglyGuessed => Kinds {
+        Some(Reason::WronglyGuessed) => Kinds {
             loaduse: kinds.loaduse,
             mispredict: kinds.mispredict + 2,
             returned: kinds.returned,
             patched: kinds.patched,
         },
-        Reason::Returned => Kinds {
+        Some(Reason::Returned) => Kinds {
             loaduse: kinds.loaduse,
             mispredict: kinds.mispredict,
             returned: kinds.returned + 3,
             patched: kinds.patched,
         },
-        Reason::Patched => Kinds {
+        Some(Reason::Patched) => Kinds {
             loaduse: kinds.loaduse,
             mispredict: kinds.mispredict,
             returned: kinds.returned,
@@ -93,10 +93,10 @@ fn still_kept(kept: Kept) -> Kept
     ensures { result ≡ kept }
 {
     match kept {
-        Kept::NoneKept => Kept::NoneKept,
-        Kept::LastKept(k) => {
+        None => None,
+        Some(k) => {
             let i = k.instruction;
-            Kept::LastKept(Retired {
+            Some(Retired {
                 instruction: afresh(i),
                 holds: k.holds,
                 patched: k.patched,
@@ -114,7 +114,7 @@ fn kept_by(x: Accessed, kept: Kept) -> Kept
     if is_bad(status) {
         return still_kept(kept);
     }
-    Kept::LastKept(Retired {
+    Some(Retired {
         instruction: afresh(i),
         holds: x.holds,
         patched: x.patched,
@@ -125,8 +125,8 @@ pub fn retires(w: StageW) -> bool
     ensures { result ≡ retires_of w }
 {
     match w {
-        StageW::BubbleW => false,
-        StageW::InW(_) => true,
+        None => false,
+        Some(_) => true,
     }
 }
 
@@ -135,8 +135,8 @@ pub fn status_after(w: StageW) -> Status
     ensures { result ≡ status_after w }
 {
     match w {
-        StageW::BubbleW => Status::Aok,
-        StageW::InW(x) => x.status,
+        None => Status::Aok,
+        Some(x) => x.status,
     }
 }
 
@@ -147,14 +147,14 @@ pub fn counted(settings: Settings, t: Tally, w: StageW) -> Tally
     let kinds = t.kinds;
     let kept = t.kept;
     match w {
-        StageW::BubbleW => Tally {
+        None => Tally {
             last: t.last,
             retired: t.retired,
             cycles: t.cycles + 1,
             kinds,
             kept: still_kept(kept),
         },
-        StageW::InW(x) => {
+        Some(x) => {
             let i = x.instruction;
             Tally {
                 last: i.address,

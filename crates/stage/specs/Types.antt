@@ -4,11 +4,11 @@ pub use Rattle.machine.specs.declared.Instruction.{Instruction}
 pub use Rattle.machine.specs.declared.Decoded.{Decoded}
 pub use Rattle.machine.specs.declared.Executed.{Executed}
 pub use Rattle.machine.specs.declared.Accessed.{Accessed}
-pub use Rattle.clocked.specs.declared.StageD.{StageD}
-pub use Rattle.clocked.specs.declared.StageD.TheVariants.{BubbleD as bubble_d, InD as in_d}
-pub use Rattle.clocked.specs.declared.StageE.{StageE}
-pub use Rattle.clocked.specs.declared.StageE.TheVariants.{BubbleE as bubble_e, InE as in_e}
-pub use Rattle.clocked.specs.declared.StageM.{StageM}
-pub use Rattle.clocked.specs.declared.StageM.TheVariants.{BubbleM as bubble_m, InM as in_m}
-pub use Rattle.clocked.specs.declared.StageW.{StageW}
-pub use Rattle.clocked.specs.declared.StageW.TheVariants.{BubbleW as bubble_w, InW as in_w}
+pub use Rattle.clocked.specs.Record.{StageD}
+pub use Rattle.clocked.specs.Record.{bubble_d, in_d}
+pub use Rattle.clocked.specs.Record.{StageE}
+pub use Rattle.clocked.specs.Record.{bubble_e, in_e}
+pub use Rattle.clocked.specs.Record.{StageM}
+pub use Rattle.clocked.specs.Record.{bubble_m, in_m}
+pub use Rattle.clocked.specs.Record.{StageW}
+pub use Rattle.clocked.specs.Record.{bubble_w, in_w}

@@ -14,8 +14,8 @@ fn returned_to(w: StageW, predicted: u64) -> u64
     ensures { result ≡ returned_to w predicted }
 {
     match w {
-        StageW::BubbleW => predicted,
-        StageW::InW(x) => {
+        None => predicted,
+        Some(x) => {
             let i = x.instruction;
             let code = i.code;
             match code {
@@ -32,8 +32,8 @@ fn mended(wrong: bool, m: StageM, otherwise: u64) -> u64
 {
     if wrong {
         match m {
-            StageM::BubbleM => otherwise,
-            StageM::InM(x) => {
+            None => otherwise,
+            Some(x) => {
                 let i = x.instruction;
                 turned(i, x.holds)
             }
@@ -54,8 +54,8 @@ pub fn restart(m: StageM, otherwise: u64) -> u64
     ensures { result ≡ restart_of m otherwise }
 {
     match m {
-        StageM::BubbleM => otherwise,
-        StageM::InM(x) => {
+        None => otherwise,
+        Some(x) => {
             let i = x.instruction;
             straight(i)
         }

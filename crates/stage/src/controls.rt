@@ -55,8 +55,8 @@ fn held_d(d: StageD) -> StageD
     ensures { result ≡ d }
 {
     match d {
-        StageD::BubbleD => StageD::BubbleD,
-        StageD::InD(i) => StageD::InD(afresh(i)),
+        None => None,
+        Some(i) => Some(afresh(i)),
     }
 }
 
@@ -71,15 +71,15 @@ pub fn next_d(
     ensures { result ≡ cond cancelled bubble_d (cond waits d (cond returns bubble_d (in_d fetched))) }
 {
     if cancelled {
-        return StageD::BubbleD;
+        return None;
     }
     if waits {
         return held_d(d);
     }
     if returns {
-        StageD::BubbleD
+        None
     } else {
-        StageD::InD(afresh(fetched))
+        Some(afresh(fetched))
     }
 }
 
@@ -87,14 +87,14 @@ pub fn next_d(
 pub fn next_e(bubbles: bool, decoded: StageE) -> StageE
     ensures { result ≡ cond bubbles bubble_e decoded }
 {
-    if bubbles { StageE::BubbleE } else { decoded }
+    if bubbles { None } else { decoded }
 }
 
 // A bubble behind a bad status in M, and behind a store into the window.
 pub fn next_m(emptied: bool, executed: StageM) -> StageM
     ensures { result ≡ cond emptied bubble_m executed }
 {
-    if emptied { StageM::BubbleM } else { executed }
+    if emptied { None } else { executed }
 }
 
 // The targets of what goes into M.

@@ -26,8 +26,8 @@ pub fn sources_d(d: StageD) -> Sources
     ensures { result ≡ sources_d d }
 {
     match d {
-        StageD::BubbleD => Sources { a: NONE, b: NONE },
-        StageD::InD(i) => Sources {
+        None => Sources { a: NONE, b: NONE },
+        Some(i) => Sources {
             a: source_a(i),
             b: source_b(i),
         },
@@ -39,8 +39,8 @@ pub fn awaited(settings: Settings, d: StageD, a: u8) -> u8
     ensures { result ≡ awaited_by (core_of settings) d a }
 {
     match d {
-        StageD::BubbleD => a,
-        StageD::InD(i) => { if takes_late(settings, i) { NONE } else { a } }
+        None => a,
+        Some(i) => { if takes_late(settings, i) { NONE } else { a } }
     }
 }
 
@@ -78,8 +78,8 @@ pub fn targets_m(m: StageM) -> Targets
     ensures { result ≡ targets_m m }
 {
     match m {
-        StageM::BubbleM => no_targets(),
-        StageM::InM(x) => {
+        None => no_targets(),
+        Some(x) => {
             let i = x.instruction;
             targets_of(i, x.holds)
         }
@@ -90,8 +90,8 @@ pub fn targets_w(w: StageW) -> Targets
     ensures { result ≡ targets_w w }
 {
     match w {
-        StageW::BubbleW => no_targets(),
-        StageW::InW(x) => {
+        None => no_targets(),
+        Some(x) => {
             let i = x.instruction;
             targets_of(i, x.holds)
         }
@@ -102,8 +102,8 @@ fn result_m(m: StageM) -> u64
     ensures { result ≡ result_m m }
 {
     match m {
-        StageM::BubbleM => 0,
-        StageM::InM(x) => x.result,
+        None => 0,
+        Some(x) => x.result,
     }
 }
 
@@ -111,8 +111,8 @@ pub fn result_w(w: StageW) -> u64
     ensures { result ≡ result_w w }
 {
     match w {
-        StageW::BubbleW => 0,
-        StageW::InW(x) => x.result,
+        None => 0,
+        Some(x) => x.result,
     }
 }
 
@@ -120,8 +120,8 @@ pub fn word_w(w: StageW) -> u64
     ensures { result ≡ word_w w }
 {
     match w {
-        StageW::BubbleW => 0,
-        StageW::InW(x) => x.word,
+        None => 0,
+        Some(x) => x.word,
     }
 }
 
@@ -165,11 +165,11 @@ pub fn decode_d(
     ensures { result ≡ decoded_by s t executed u accessed registers.now d }
 {
     match d {
-        StageD::BubbleD => StageE::BubbleE,
-        StageD::InD(i) => {
+        None => None,
+        Some(i) => {
             let a = source(t, executed, u, accessed, registers, s.a);
             let b = source(t, executed, u, accessed, registers, s.b);
-            StageE::InE(Decoded {
+            Some(Decoded {
                 instruction: i,
                 a,
                 b,

@@ -63,8 +63,8 @@ pub fn wrong(settings: Settings, m: StageM) -> bool
     ensures { result ≡ wrong_of (core_of settings) m }
 {
     match m {
-        StageM::BubbleM => false,
-        StageM::InM(x) => {
+        None => false,
+        Some(x) => {
             let i = x.instruction;
             mispredicted(settings, i, x.holds)
         }
@@ -75,8 +75,8 @@ fn ret_in_d(d: StageD) -> bool
     ensures { result ≡ ret_in_d d }
 {
     match d {
-        StageD::BubbleD => false,
-        StageD::InD(i) => i.code == RET,
+        None => false,
+        Some(i) => i.code == RET,
     }
 }
 
@@ -84,8 +84,8 @@ fn ret_in_e(e: StageE) -> bool
     ensures { result ≡ ret_in_e e }
 {
     match e {
-        StageE::BubbleE => false,
-        StageE::InE(x) => {
+        None => false,
+        Some(x) => {
             let i = x.instruction;
             i.code == RET
         }
@@ -96,8 +96,8 @@ fn ret_in_m(m: StageM) -> bool
     ensures { result ≡ ret_in_m m }
 {
     match m {
-        StageM::BubbleM => false,
-        StageM::InM(x) => {
+        None => false,
+        Some(x) => {
             let i = x.instruction;
             i.code == RET
         }
@@ -116,8 +116,8 @@ pub fn bad_in_w(w: StageW) -> bool
     ensures { result ≡ bad_in_w w }
 {
     match w {
-        StageW::BubbleW => false,
-        StageW::InW(x) => {
+        None => false,
+        Some(x) => {
             let status = x.status;
             is_bad(status)
         }
@@ -129,7 +129,7 @@ pub fn patched_in_w(w: StageW) -> bool
     ensures { result ≡ patched_in_w w }
 {
     match w {
-        StageW::BubbleW => false,
-        StageW::InW(x) => x.patched,
+        None => false,
+        Some(x) => x.patched,
     }
 }

@@ -20,8 +20,8 @@ fn handed_a(settings: Settings, w: StageW, x: Decoded) -> u64
     let i = x.instruction;
     if takes_late(settings, i) {
         match w {
-            StageW::BubbleW => x.a,
-            StageW::InW(y) => {
+            None => x.a,
+            Some(y) => {
                 let j = y.instruction;
                 if meets(loaded_target(j), source_a(i)) {
                     y.word
@@ -40,8 +40,8 @@ pub fn after_e(settings: Settings, w: StageW, e: StageE, codes: Codes) -> StageM
     ensures { result ≡ after_e (handed (core_of settings) w e) codes }
 {
     match e {
-        StageE::BubbleE => StageM::BubbleM,
-        StageE::InE(x) => {
+        None => None,
+        Some(x) => {
             let instruction = x.instruction;
             let a = handed_a(settings, w, x);
             let given = Decoded {
@@ -49,7 +49,7 @@ pub fn after_e(settings: Settings, w: StageW, e: StageE, codes: Codes) -> StageM
                 a,
                 b: x.b,
             };
-            StageM::InM(execute(given, codes))
+            Some(execute(given, codes))
         }
     }
 }
@@ -60,8 +60,8 @@ pub fn after_m(window: Window, m: StageM, memory: &mut [u8]) -> StageW
         × (through window (lent memory.new) ≡ memory_after m (through window (lent memory.old))) }
 {
     match m {
-        StageM::BubbleM => StageW::BubbleW,
-        StageM::InM(x) => StageW::InW(access_and_update(x, window, memory)),
+        None => None,
+        Some(x) => Some(access_and_update(x, window, memory)),
     }
 }
 
@@ -69,8 +69,8 @@ pub fn codes_after(e: StageE, codes: Codes) -> Codes
     ensures { result ≡ codes_after e codes }
 {
     match e {
-        StageE::BubbleE => codes,
-        StageE::InE(x) => new_codes(x, codes),
+        None => codes,
+        Some(x) => new_codes(x, codes),
     }
 }
 

@@ -1,7 +1,7 @@
 -- Both engines from one start: what `run_both` answers, and demand 3 of the two answers. Assumes nothing.
 use Rattle.std.specs.Prelude.{ℕ, cond, ◌≡◌, refl, List, eqb, length}
 use Rattle.std.proofs.Common.{sym, subst}
-use Rattle.machine.specs.declared.Window.{Window}
+use Rattle.machine.specs.Types.{Window}
 use Rattle.machine.specs.declared.Codes.{Codes}
 use Rattle.clocked.specs.declared.Settings.{Settings}
 use Rattle.machine.specs.Memory.{Memory, size, Registers}

@@ -1,8 +1,8 @@
 -- Traces and their verdicts, computed of the definitions: targets, charges, both kinds, the stop, and a window.
 use Rattle.std.specs.Prelude.{ℕ, true, false, List, [], ◌∷◌, ◌++◌, ◌≡◌, refl, replicate}
 use Prim.Native.String.{String}
-use Rattle.machine.specs.declared.Window.{Window}
-use Rattle.machine.specs.declared.Window.TheVariants.{NoWindow as no_window, Within as within}
+use Rattle.machine.specs.Types.{Window}
+use Rattle.machine.specs.Types.{no_window, within}
 use Rattle.machine.specs.Memory.{lent}
 use Rattle.clocked.specs.Prediction.{core_of}
 use Rattle.clocked.specs.Computing.{computing}
@@ -67,7 +67,7 @@ patching = 0x40 ∷ 0x01 ∷ 0x0c ∷ replicate 7 0 ++ replicate 10 0x10
 
 pub kinds : (judged_as no_window patching "1\t0\t5\t-\t0\n2\t10\t6\t-\t0\n3\t11\t7\t-\t0\n4\t12\t8\t-\t0\n" ≡ 4 ∷ 2 ∷ 3 ∷ [])
     × (judged_as no_window patching "1\t0\t5\t-\t0\n2\t10\t6\t-\t0\n3\t11\t7\t-\t0\n?" ≡ 4 ∷ 2 ∷ 3 ∷ [])
-    × (judged_as (within 0 20) patching "1\t0\t5\t-\t0\n2\t10\t9\t-\t0\n3\t11\t10\t-\t0\n4\t12\t11\t-\t0\n" ≡ 0 ∷ 0 ∷ 4 ∷ [])
+    × (judged_as (within (0, 20)) patching "1\t0\t5\t-\t0\n2\t10\t9\t-\t0\n3\t11\t10\t-\t0\n4\t12\t11\t-\t0\n" ≡ 0 ∷ 0 ∷ 4 ∷ [])
 unfolding judged_as patching
 kinds = (refl, refl, refl)
 

@@ -6,10 +6,10 @@ use Rattle.std.proofs.Common.{true≢false, ◌∙◌, arith}
 use mathlib.Core.List.{List, [], ◌++◌, append-nil, append_assoc}
 use Rattle.std.proofs.Math.Path.{refl, ap, sym, subst}
 use Rattle.machine.specs.declared.Accessed.{Accessed}
-use Rattle.clocked.specs.declared.StageW.{StageW}
-use Rattle.clocked.specs.declared.StageW.TheVariants.{BubbleW as bubble_w, InW as in_w}
+use Rattle.clocked.specs.Record.{StageW}
+use Rattle.clocked.specs.Record.{bubble_w, in_w}
 use Rattle.clocked.specs.declared.Retired.{Retired}
-use Rattle.clocked.specs.declared.Kept.TheVariants.{LastKept as last_kept}
+use Rattle.clocked.specs.Record.{last_kept}
 use Rattle.machine.specs.Types.{is_bad, is_set}
 use Rattle.machine.specs.Plain.{Plain, plain_start, is_stopped, accessed, performed, stopped_by, step, steps}
 use Rattle.clocked.specs.Prediction.{Core}

@@ -1,7 +1,7 @@
 -- The trace of a plain history with its due cycles, and that of a pipelined run.
 use Rattle.std.specs.Prelude.{ℕ, zero, suc, ◌+◌, cond, List, [], ◌++◌}
-use Rattle.clocked.specs.declared.StageW.{StageW}
-use Rattle.clocked.specs.declared.StageW.TheVariants.{BubbleW as bubble_w, InW as in_w}
+use Rattle.clocked.specs.Record.{StageW}
+use Rattle.clocked.specs.Record.{bubble_w, in_w}
 use Rattle.machine.specs.Types.{is_bad}
 use Rattle.machine.specs.Memory.{value}
 use Rattle.machine.specs.Plain.{Plain, accessed, steps}

@@ -11,8 +11,8 @@ use lib.ListN.{length, take, get_or, set, length-set}
 use lib.Seq.{take-suc, take-suc-set, take_all}
 use Rattle.machine.specs.declared.Codes.{Codes}
 use Rattle.machine.specs.declared.Machine.{Machine}
-use Rattle.machine.specs.declared.Window.{Window}
-use Rattle.machine.specs.declared.Window.TheVariants.{NoWindow as no_window, Within as within}
+use Rattle.machine.specs.Types.{Window}
+use Rattle.machine.specs.Types.{no_window, within}
 use Rattle.clocked.specs.declared.Settings.{Settings}
 use Rattle.machine.specs.Memory.{Memory, lent, through}
 use Rattle.machine.specs.Plain.{Plain, plain_of, plain_start, steps}
@@ -28,7 +28,7 @@ use Rattle.trace_edge.specs.Allowed.{Allowed, allowed, rule_known, window_inside
 
 -- THE NUMBERS
 module _ (windowed first end : ℕ) where
-  pub some_window : windowed ≡ 1 → within first end ≡ window_from windowed first end
+  pub some_window : windowed ≡ 1 → ◌≡◌ {A = Window} (within (first, end)) (window_from windowed first end)
   unfolding window_from
   some_window h = rw (eq-eqb windowed 1 h)
 

@@ -1,13 +1,13 @@
 -- Settings at the host edge are five numbers: rule, late, windowed, first and end.
 use Rattle.std.specs.Prelude.{ℕ, Bool, cond, ◌||◌, eqb, ltb}
-use Rattle.machine.specs.declared.Window.{Window}
-use Rattle.machine.specs.declared.Window.TheVariants.{NoWindow as no_window, Within as within}
+use Rattle.machine.specs.Types.{Window}
+use Rattle.machine.specs.Types.{no_window, within}
 use Rattle.clocked.specs.declared.Settings.{Settings}
 use Rattle.machine.specs.Runs.{window_refused}
 
 -- first and end are "looked at only where `windowed` is 1"
 unfoldable pub window_from : (windowed first end : ℕ) → Window
-window_from windowed first end = cond (eqb windowed 1) (within first end) no_window
+window_from windowed first end = cond (eqb windowed 1) (within (first, end)) no_window
 
 unfoldable pub settings_from : (rule late windowed first end : ℕ) → Settings
 settings_from rule late windowed first end = record { rule = rule; late = eqb late 1; window = window_from windowed first end }

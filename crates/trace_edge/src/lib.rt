@@ -6,9 +6,9 @@ ghost use Rattle.std.specs.Prelude.{◌≡◌, false, ◌≤◌, length};
 ghost use Rattle.trace_edge.specs.Settings.{window_from, settings_from, numbers_refused as numbers_refused_of};
 ghost use Rattle.trace_edge.specs.Checks.{check, check_refusal, checked};
 
-use block::{codes_from, read_registers, write_words};
+use block::{read_registers, write_words};
 use clocked::Settings;
-use machine::Window;
+use machine::{Codes, Window};
 
 const REGISTER_BYTES: usize = 120;
 
@@ -23,9 +23,9 @@ fn window_from(windowed: u64, first: u64, end: u64) -> Window
     ensures { result ≡ window_from windowed first end }
 {
     if windowed == 1 {
-        Window::Within(first, end)
+        Some((first, end))
     } else {
-        Window::NoWindow
+        None
     }
 }
 
@@ -130,7 +130,7 @@ pub fn check_trace(
         window,
         size,
         read_registers(registers),
-        codes_from(codes),
+        Codes::from(codes),
         start,
     );
     let machine = fresh.machine;

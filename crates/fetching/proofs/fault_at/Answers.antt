@@ -3,20 +3,20 @@ use Rattle.fetching.proofs.Blame.{none_at, first_at, code_at, function_at, later
 use borrow.Author.Rules.{rules}
 use Rattle.fetching.proofs.fault_at.Goals as goal
 
-pub returns-in-NoFault : goal.returns-in-NoFault
-returns-in-NoFault c = search (rules, none_at)
+pub returns-in-None : goal.returns-in-None
+returns-in-None c = search (rules, none_at)
 
-pub returns-in-FirstMissing : goal.returns-in-FirstMissing
-returns-in-FirstMissing c = search (rules, first_at)
+pub returns-in-Some-FirstMissing : goal.returns-in-Some-FirstMissing
+returns-in-Some-FirstMissing c = search (rules, first_at)
 
-pub returns-in-NoCode : goal.returns-in-NoCode
-returns-in-NoCode c = search (rules, code_at)
+pub returns-in-Some-NoCode : goal.returns-in-Some-NoCode
+returns-in-Some-NoCode c = search (rules, code_at)
 
-pub returns-in-NoFunction : goal.returns-in-NoFunction
-returns-in-NoFunction c = search (rules, function_at)
+pub returns-in-Some-NoFunction : goal.returns-in-Some-NoFunction
+returns-in-Some-NoFunction c = search (rules, function_at)
 
-pub returns-in-LaterMissing : goal.returns-in-LaterMissing
-returns-in-LaterMissing c = search (rules, later_at)
+pub returns-in-Some-LaterMissing : goal.returns-in-Some-LaterMissing
+returns-in-Some-LaterMissing c = search (rules, later_at)
 
-pub returns-in-NoRegister : goal.returns-in-NoRegister
-returns-in-NoRegister c = search (rules, register_at)
+pub returns-in-Some-NoRegister : goal.returns-in-Some-NoRegister
+returns-in-Some-NoRegister c = search (rules, register_at)

@@ -1,6 +1,6 @@
 use mathlib.Core.Path.{◌≡◌, ap}
 use Prim.Native.Nat.{ℕ}
-use Rattle.machine.specs.declared.Window.{Window}
+use Rattle.machine.specs.Types.{Window}
 use Rattle.machine.specs.declared.Codes.{Codes}
 use Rattle.machine.specs.declared.Machine.{Machine}
 use Rattle.machine.specs.Memory.{Registers}

@@ -3,17 +3,17 @@ use Rattle.retiring.proofs.Ways.{none_counted, wait_counted, guess_counted, retu
 use borrow.Author.Rules.{rules}
 use Rattle.retiring.proofs.count.Goals as goal
 
-pub returns-in-Free : goal.returns-in-Free
-returns-in-Free c = search (rules, none_counted)
+pub returns-in-None : goal.returns-in-None
+returns-in-None c = search (rules, none_counted)
 
-pub returns-in-Waited : goal.returns-in-Waited
-returns-in-Waited c = search (rules, wait_counted)
+pub returns-in-Some-Waited : goal.returns-in-Some-Waited
+returns-in-Some-Waited c = search (rules, wait_counted)
 
-pub returns-in-WronglyGuessed : goal.returns-in-WronglyGuessed
-returns-in-WronglyGuessed c = search (rules, guess_counted)
+pub returns-in-Some-WronglyGuessed : goal.returns-in-Some-WronglyGuessed
+returns-in-Some-WronglyGuessed c = search (rules, guess_counted)
 
-pub returns-in-Returned : goal.returns-in-Returned
-returns-in-Returned c = search (rules, return_counted)
+pub returns-in-Some-Returned : goal.returns-in-Some-Returned
+returns-in-Some-Returned c = search (rules, return_counted)
 
-pub returns-in-Patched : goal.returns-in-Patched
-returns-in-Patched c = search (rules, patch_counted)
+pub returns-in-Some-Patched : goal.returns-in-Some-Patched
+returns-in-Some-Patched c = search (rules, patch_counted)

@@ -3,8 +3,8 @@ use Rattle.retiring.proofs.Ways.{only_a_cycle, one_retired}
 use borrow.Author.Rules.{rules}
 use Rattle.retiring.proofs.counted.Goals as goal
 
-pub returns-in-BubbleW : goal.returns-in-BubbleW
-returns-in-BubbleW c = search (rules, only_a_cycle)
+pub returns-in-None : goal.returns-in-None
+returns-in-None c = search (rules, only_a_cycle)
 
-pub returns-in-InW : goal.returns-in-InW
-returns-in-InW c = search (rules, one_retired)
+pub returns-in-Some : goal.returns-in-Some
+returns-in-Some c = search (rules, one_retired)

@@ -2,8 +2,8 @@ use Rattle.retiring.proofs.Ways.{uncharged, charged}
 use borrow.Author.Rules.{rules}
 use Rattle.retiring.proofs.reason_from.Goals as goal
 
-pub returns-in-NoneKept : goal.returns-in-NoneKept
-returns-in-NoneKept c = search (rules, uncharged)
+pub returns-in-None : goal.returns-in-None
+returns-in-None c = search (rules, uncharged)
 
-pub returns-in-LastKept : goal.returns-in-LastKept
-returns-in-LastKept c = search (rules, charged)
+pub returns-in-Some : goal.returns-in-Some
+returns-in-Some c = search (rules, charged)

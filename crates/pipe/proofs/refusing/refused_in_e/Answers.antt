@@ -2,8 +2,8 @@ use Rattle.pipe.proofs.Ways.{no_e, some_e}
 use borrow.Author.Rules.{rules}
 use Rattle.pipe.proofs.refusing.refused_in_e.Goals as goal
 
-pub returns-in-BubbleE : goal.returns-in-BubbleE
-returns-in-BubbleE c = search (rules, no_e)
+pub returns-in-None : goal.returns-in-None
+returns-in-None c = search (rules, no_e)
 
-pub returns-in-InE : goal.returns-in-InE
-returns-in-InE c = search (rules, some_e)
+pub returns-in-Some : goal.returns-in-Some
+returns-in-Some c = search (rules, some_e)

@@ -2,5 +2,5 @@ use Rattle.stage.proofs.Ways.{d_afresh}
 use borrow.Author.Rules.{rules}
 use Rattle.stage.proofs.controls.held_d.Goals as goal
 
-pub returns-in-InD : goal.returns-in-InD
-returns-in-InD c = search (rules, d_afresh)
+pub returns-in-Some : goal.returns-in-Some
+returns-in-Some c = search (rules, d_afresh)

@@ -2,8 +2,8 @@ use Rattle.stage.proofs.Ways.{late_d, late_a, not_late_a}
 use borrow.Author.Rules.{rules}
 use Rattle.stage.proofs.forwarding.awaited.Goals as goal
 
-pub returns-in-BubbleD : goal.returns-in-BubbleD
-returns-in-BubbleD c = search (rules, late_d)
+pub returns-in-None : goal.returns-in-None
+returns-in-None c = search (rules, late_d)
 
 pub returns-then-takes_late : goal.returns-then-takes_late
 returns-then-takes_late c = search (rules, late_a)

@@ -2,8 +2,8 @@ use Rattle.stage.proofs.Ways.{handed_none, handed_word, handed_unmet, handed_not
 use borrow.Author.Rules.{rules}
 use Rattle.stage.proofs.working.handed_a.Goals as goal
 
-pub returns-in-BubbleW : goal.returns-in-BubbleW
-returns-in-BubbleW c = search (rules, handed_none)
+pub returns-in-None : goal.returns-in-None
+returns-in-None c = search (rules, handed_none)
 
 pub returns-then-meets : goal.returns-then-meets
 returns-then-meets c = search (rules, handed_word)
