@@ -1,9 +1,7 @@
 // The table of sixteen rows, a constant array for each column. The definitions' table has the same rows, and names the same entries.
 // One array of rows, each a struct, is not taken: the clock, which looks up single columns, is slower with it.
+use crate::ROWS;
 use crate::kinds::{Accesses, Computes, RegisterByte, Which};
-
-// A row for each code that half a byte can hold.
-pub const ROWS: usize = 16;
 
 // The length.
 pub const SIZES: [u8; ROWS] = [

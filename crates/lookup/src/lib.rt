@@ -10,9 +10,12 @@ ghost use Rattle.machine.specs.Table.{row_of};
 ghost use Rattle.lookup.specs.Kinds.{byte_meant, which_meant, computes_meant, accesses_meant};
 
 use crate::columns::{
-    A_FROM, ACCESSES, B_FROM, BYTES, COMPUTES, FUNCTIONS, LOADED, ROWS, SIZES, TARGETS,
+    A_FROM, ACCESSES, B_FROM, BYTES, COMPUTES, FUNCTIONS, LOADED, SIZES, TARGETS,
 };
 use crate::kinds::{Accesses, Computes, RegisterByte, Which};
+
+// A row for each code that half a byte can hold.
+pub const ROWS: usize = 16;
 
 // A code of 16 or above, which only a record made by hand has, has the entry of a code without a row.
 fn entry<T: Copy>(column: &[T; ROWS], code: u8, otherwise: T) -> T
