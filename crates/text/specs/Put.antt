@@ -1,5 +1,5 @@
 -- A text put by a writer into its buffer, and the laws by which a text is put piece by piece. Assumes nothing.
-use Rattle.std.specs.Prelude.{◌≡◌, refl, Bool, true, false, List, [], ◌∷◌, ◌++◌, ℕ, suc, ◌+◌, ◌-◌, ◌^◌, ◌≤◌, ◌<◌, leb, length, min, drop, set}
+use Rattle.std.specs.Prelude.{◌≡◌, refl, Bool, true, false, List, [], ◌∷◌, ◌++◌, ℕ, suc, ◌+◌, ◌-◌, ◌^◌, ◌≤◌, ◌<◌, leb, length, min, max, drop, set}
 use Rattle.std.proofs.Common.{ap, sym, ◌∙◌, zero-add, arith, length-append, leb-true, leb-false}
 use Rattle.std.specs.Borrow.{MutBor}
 use Rattle.std.proofs.lemmas.List.Edits.{sets, sets-eq}
@@ -13,16 +13,19 @@ pub record Begun (buffer : MutBor (List ℕ)) (w : Writer) : Type 0 where
   pub lent : w.buffer.now ≡ buffer.now
   pub place : w.at ≡ 0
 
--- the text stands in the buffer behind what was put before, all other bytes as they were; what would stand past the end is cut off
--- the count grows by the length of the text, whether or not the buffer has it, up to the highest word
+-- a count grows by a length, up to the highest word
+abbrev pub counted : (at n : ℕ) → ℕ
+counted at n = max at (min (at + n) (2 ^ 64 - 1))
+
+-- the text stands in the buffer behind what was put before, all other bytes as they were; what would stand past the end is cut off and yet counted
 pub record Put (text : List ℕ) (before after : Writer) : Type 0 where
   pub same : after.buffer.ghost_name ≡ before.buffer.ghost_name
   pub room : length before.buffer.now < 2 ^ 64
   pub lent : after.buffer.now ≡ sets before.buffer.now before.at text
-  pub place : after.at ≡ min (before.at + length text) (2 ^ 64 - 1)
+  pub place : after.at ≡ counted before.at (length text)
 
-pub put_nothing : (w : Writer) → length w.buffer.now < 2 ^ 64 → w.at < 2 ^ 64 → Put [] w w
-put_nothing w r h = record { same = refl; room = r; lent = refl; place = omega arith }
+pub put_nothing : (w : Writer) → length w.buffer.now < 2 ^ 64 → Put [] w w
+put_nothing w r = record { same = refl; room = r; lent = refl; place = omega arith }
 
 sets_both : (s t b : List ℕ) (at : ℕ) → sets b at (s ++ t) ≡ sets (sets b at s) (at + length s) t
 sets_both [] t b at =
@@ -37,14 +40,14 @@ sets_past : (t b : List ℕ) (at : ℕ) → length b ≤ at → sets b at t ≡ 
 sets_past [] b at h = refl
 sets_past (x ∷ t) b at h = rw (set_out b at x h) (sets_past t b (suc at) (omega arith))
 
-sets_counted : (t b : List ℕ) (n : ℕ) → length b < 2 ^ 64 → sets b (min n (2 ^ 64 - 1)) t ≡ sets b n t
-sets_counted t b n h = go (leb n (2 ^ 64 - 1)) refl
+sets_counted : (t b : List ℕ) (at n : ℕ) → length b < 2 ^ 64 → sets b (counted at n) t ≡ sets b (at + n) t
+sets_counted t b at n h = go (leb (at + n) (2 ^ 64 - 1)) refl
   where
-    go : (x : Bool) → leb n (2 ^ 64 - 1) ≡ x → sets b (min n (2 ^ 64 - 1)) t ≡ sets b n t
-    go true e = ap (λ (i : ℕ). sets b i t) (omega (arith, leb-true n (2 ^ 64 - 1) e))
+    go : (x : Bool) → leb (at + n) (2 ^ 64 - 1) ≡ x → sets b (counted at n) t ≡ sets b (at + n) t
+    go true e = ap (λ (i : ℕ). sets b i t) (omega (arith, leb-true (at + n) (2 ^ 64 - 1) e))
     go false e =
-        let l = leb-false n (2 ^ 64 - 1) e in
-        sets_past t b (min n (2 ^ 64 - 1)) (omega arith) ∙ sym (sets_past t b n (omega arith))
+        let l = leb-false (at + n) (2 ^ 64 - 1) e in
+        sets_past t b (counted at n) (omega arith) ∙ sym (sets_past t b (at + n) (omega arith))
 
 -- one text behind another
 pub put_both : {s t : List ℕ} {a b c : Writer} → Put s a b → Put t b c → Put (s ++ t) a c
@@ -56,7 +59,7 @@ put_both {s} {t} {a} {b} {c} p q =
           q.lent
           ∙ (ap (λ (l : List ℕ). sets l b.at t) p.lent
           ∙ (ap (λ (i : ℕ). sets (sets a.buffer.now a.at s) i t) p.place
-          ∙ (sets_counted t (sets a.buffer.now a.at s) (a.at + length s) (rw length-sets p.room) ∙ sym (sets_both s t a.buffer.now a.at))));
+          ∙ (sets_counted t (sets a.buffer.now a.at s) a.at (length s) (rw length-sets p.room) ∙ sym (sets_both s t a.buffer.now a.at))));
       place = omega (arith, length-append s t, p.place, q.place);
     }
 

@@ -1,6 +1,8 @@
-use Rattle.report_lines.proofs.Ways.{number_line_lem}
-use native.Mathlib.Omega.{arith}
+use Rattle.text.specs.Bytes.{bytes}
+use Rattle.text.specs.Put.{put_both}
+use Rattle.report_lines.specs.Lines.{line}
 use Rattle.report_lines.proofs.put_number.Goals as goal
 
 pub returns : goal.returns
-returns c = record { put = number_line_lem _ c.put_text-tab.ensures c.put_byte-digits.ensures c.put_decimal-end.ensures.put c.put_byte.ensures; upper_bound = omega arith }
+unfolding line bytes
+returns c = put_both (put_both (put_both c.text.ensures c.byte.ensures) c.decimal.ensures) c.byte-2.ensures
