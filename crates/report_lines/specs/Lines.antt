@@ -1,7 +1,8 @@
 -- Document 01's "Program": the lines that it writes, but for the registers'.
-use Rattle.std.specs.Prelude.{ℕ, ◌+◌, ◌^◌, ◌<◌, ◌≤◌, ◌≡◌, refl, List, ◌++◌, length}
+use Rattle.std.specs.Prelude.{ℕ, ◌+◌, ◌^◌, ◌<◌, ◌≤◌, ◌≡◌, refl, Bool, true, false, cond, List, ◌++◌, length}
 use Rattle.std.proofs.Common.{arith, length-append}
 use Prim.Native.String.{String}
+use Rattle.machine.specs.declared.Codes.{Codes}
 use Rattle.machine.specs.declared.Status.{Status}
 use Rattle.machine.specs.declared.Status.TheVariants.{Aok as aok, Hlt as hlt, Adr as adr, Ins as ins}
 use Rattle.clocked.specs.declared.Kinds.{Kinds}
@@ -52,17 +53,23 @@ status_length hlt = refl
 status_length adr = refl
 status_length ins = refl
 
-pub counts_length : (p : Pipeline) → p.last < 2 ^ 64 → codes_number p.codes < 2 ^ 64 → p.retired < 2 ^ 64 → p.cycles < 2 ^ 64 → length (count_lines p) ≤ 110
+bit_small : (b : Bool) → cond b 1 0 ≤ 1
+bit_small true = omega arith
+bit_small false = omega arith
+
+codes_small : (c : Codes) → codes_number c ≤ 7
+unfolding codes_number
+codes_small c = omega (arith, bit_small c.zf, bit_small c.sf, bit_small c.of)
+
+pub counts_length : (p : Pipeline) → p.last < 2 ^ 64 → p.retired < 2 ^ 64 → p.cycles < 2 ^ 64 → length (count_lines p) ≤ 110
 unfolding count_lines bytes
-counts_length p h i j k =
+counts_length p h i j =
     simp length-append
-    (omega (
-      arith,
+    (omega (arith,
       number_length (bytes "last") p.last h,
-      number_length (bytes "codes") (codes_number p.codes) i,
-      number_length (bytes "retired") p.retired j,
-      number_length (bytes "cycles") p.cycles k,
-    ))
+      number_length (bytes "codes") (codes_number p.codes) (omega (arith, codes_small p.codes)),
+      number_length (bytes "retired") p.retired i,
+      number_length (bytes "cycles") p.cycles j))
 
 pub kinds_length : (k : Kinds) → k.loaduse < 2 ^ 64 → k.mispredict < 2 ^ 64 → k.returned < 2 ^ 64 → length (kind_lines k) ≤ 89
 unfolding kind_lines bytes
