@@ -65,11 +65,13 @@ pub counts_length : (p : Pipeline) → p.last < 2 ^ 64 → p.retired < 2 ^ 64 �
 unfolding count_lines bytes
 counts_length p h i j =
     simp length-append
-    (omega (arith,
+    (omega (
+      arith,
       number_length (bytes "last") p.last h,
       number_length (bytes "codes") (codes_number p.codes) (omega (arith, codes_small p.codes)),
       number_length (bytes "retired") p.retired i,
-      number_length (bytes "cycles") p.cycles j))
+      number_length (bytes "cycles") p.cycles j,
+    ))
 
 pub kinds_length : (k : Kinds) → k.loaduse < 2 ^ 64 → k.mispredict < 2 ^ 64 → k.returned < 2 ^ 64 → length (kind_lines k) ≤ 89
 unfolding kind_lines bytes

@@ -15,8 +15,7 @@ pub fn put_number(out: &mut Writer<'_>, name: &[u8], v: u64)
 {
     out.text(name);
     out.byte(b'\t');
-    out.decimal(v);
-    out.byte(b'\n');
+    out.field(v, b'\n');
 }
 
 pub fn put_status(out: &mut Writer<'_>, status: Status)

@@ -1,4 +1,5 @@
 // Unsigned decimal numbers.
+ghost use Rattle.std.specs.Prelude.{[], ◌∷◌, ◌++◌};
 ghost use Rattle.text.specs.Decimal.{decimal};
 ghost use Rattle.text.specs.Put.{Put};
 
@@ -14,5 +15,12 @@ impl Writer<'_> {
         }
         self.decimal(n / 10);
         self.byte(b'0' + (n % 10) as u8);
+    }
+    // A decimal field with the byte that ends it.
+    pub fn field(&mut self, n: u64, end: u8)
+        ensures { Put (decimal n ++ end ∷ []) self.old self.new }
+    {
+        self.decimal(n);
+        self.byte(end);
     }
 }
