@@ -5,34 +5,18 @@ use mathlib.Core.List.{List, [], ◌∷◌}
 use Prim.Native.Nat.{ℕ, ◌+◌, ◌*◌, ◌≤◌, ◌<◌}
 use native.Mathlib.Nat.{lt_of_not-le}
 use native.Mathlib.Omega.{arith}
-use lib.Dec.{T, eqb, ltb, leb}
+use lib.Dec.{T, ltb, leb}
 use lib.ListN.{replicate}
 use borrow.Author.Tests.{le-leb, lt-leb, le-ltb, lt-ltb, leb-false}
 use Rattle.machine.specs.Words.{placed}
 use Rattle.machine.specs.Memory.{Memory, lent, inside, store}
-use Rattle.machine.specs.Table.{RegisterByte, no_byte, both_named, only_b, only_a, row_of, unknown_code}
+use Rattle.machine.specs.Table.{RegisterByte, row_of, unknown_code}
 use Rattle.machine.specs.Fetch.{names_a, names_b, half}
 use Rattle.laws.specs.Tests.{neither}
 use Rattle.published.specs.Lengths.{no_functions}
-use Rattle.lookup.specs.Numbers.{byte_number}
 use Rattle.text.specs.Put.{Put, put_nothing, put_both}
 use Rattle.encoding.specs.Encode.{Fields, encode_refused, least_first, pair, tail, form}
 use Rattle.encoding.specs.Back.{a_small, b_small, function_small}
-
--- WHICH HALVES name a register, by the number of the register byte
-pub named_a : (y : RegisterByte) (n : ℕ) → n ≡ byte_number y → eqb n 1 || eqb n 3 ≡ names_a y
-unfolding byte_number names_a
-named_a no_byte n e = rw e
-named_a both_named n e = rw e
-named_a only_b n e = rw e
-named_a only_a n e = rw e
-
-pub named_b : (y : RegisterByte) (n : ℕ) → n ≡ byte_number y → eqb n 1 || eqb n 2 ≡ names_b y
-unfolding byte_number names_b
-named_b no_byte n e = rw e
-named_b both_named n e = rw e
-named_b only_b n e = rw e
-named_b only_a n e = rw e
 
 -- REFUSAL 5
 module _ (i : Fields) where
@@ -43,10 +27,10 @@ module _ (i : Fields) where
   pub no_such_code : 16 ≤ i.code → true ≡ encode_refused i
   no_such_code h = no_such_function 0 (sym (no_functions i.code (omega arith))) (omega arith)
 
-  pub by_registers : (n : ℕ) (a b : Bool) → n ≡ (row_of i.code).functions → i.function < n → a ≡ names_a (row_of i.code).byte
-      → b ≡ names_b (row_of i.code).byte → (a && ltb 14 i.ra) || (b && ltb 14 i.rb) ≡ encode_refused i
+  pub by_registers : (n : ℕ) (y : RegisterByte) (a b : Bool) → n ≡ (row_of i.code).functions → i.function < n → y ≡ (row_of i.code).byte → a ≡ names_a y
+      → b ≡ names_b y → (a && ltb 14 i.ra) || (b && ltb 14 i.rb) ≡ encode_refused i
   unfolding encode_refused
-  by_registers n a b e h p q = cc (lt-leb (row_of i.code).functions i.function (omega arith))
+  by_registers n y a b e h f p q = cc (lt-leb (row_of i.code).functions i.function (omega arith))
 
 half_small : (t : Bool) (x : ℕ) → (T t → x < 15) → half t x < 16
 unfolding half
@@ -73,7 +57,7 @@ small i valid =
     }
 
 -- THE REGISTER BYTE
-module _ (y : RegisterByte) (ra rb : ℕ) (s t : Bool) (hs : s ≡ names_a y) (ht : t ≡ names_b y) where
+module _ (y z : RegisterByte) (is : z ≡ y) (ra rb : ℕ) (s t : Bool) (hs : s ≡ names_a z) (ht : t ≡ names_b z) where
   pub pair_small : (high low : ℕ) → high ≡ half s ra → low ≡ half t rb → half (names_a y) ra < 16 → half (names_b y) rb < 16 → 16 * high + low < 256
   pair_small high low p q h l =
       let x : half s ra ≡ half (names_a y) ra = cc in

@@ -8,37 +8,15 @@ ghost use Rattle.machine.specs.Table.{row_of};
 ghost use Rattle.text.specs.Put.{Put};
 ghost use Rattle.encoding.specs.Encode.{fields, encode_refused, pair, form};
 
-use lookup::numbers::{BOTH_NAMED, ONLY_A, ONLY_B, ROWS};
-use lookup::{byte_of, functions_of, size_of};
+use lookup::{ROWS, byte_of, functions_of, size_of};
 use machine::NONE;
 use text::{put_byte, put_text};
-
-// Which halves of the register byte name a register.
-fn names_a(code: u8) -> bool
-    ensures { result ≡ names_a (row_of code).byte }
-{
-    let byte = byte_of(code);
-    (byte == BOTH_NAMED) | (byte == ONLY_A)
-}
-
-fn names_b(code: u8) -> bool
-    ensures { result ≡ names_b (row_of code).byte }
-{
-    let byte = byte_of(code);
-    (byte == BOTH_NAMED) | (byte == ONLY_B)
-}
 
 // A register where one is named, else the filler.
 fn half(named: bool, register: u64) -> u64
     ensures { result ≡ half_of named register }
 {
-    if named { register } else { NONE as u64 }
-}
-
-fn wide(b: u8) -> u64
-    ensures { result ≡ b }
-{
-    b as u64
+    if named { register } else { u64::from(NONE) }
 }
 
 // 5: a named register over 14, or a function not in the table.
@@ -49,10 +27,11 @@ pub fn refused(code: u64, function: u64, ra: u64, rb: u64, constant: u64) -> boo
         return true;
     }
     let row = code as u8;
-    if wide(functions_of(row)) <= function {
+    if u64::from(functions_of(row)) <= function {
         return true;
     }
-    (names_a(row) & (14 < ra)) | (names_b(row) & (14 < rb))
+    let byte = byte_of(row);
+    (byte.names_a() & (14 < ra)) | (byte.names_b() & (14 < rb))
 }
 
 // The register byte, where there is one.
@@ -61,8 +40,9 @@ fn put_pair(buffer: &mut [u8], at: usize, code: u8, ra: u64, rb: u64) -> usize
     ensures put { Put (pair (row_of code).byte ra rb) at buffer.old result buffer.new }
     ensures upper_bound { result ≤ at + 1 }
 {
-    let a = names_a(code);
-    let b = names_b(code);
+    let byte = byte_of(code);
+    let a = byte.names_a();
+    let b = byte.names_b();
     if a | b {
         let high = half(a, ra);
         let low = half(b, rb);

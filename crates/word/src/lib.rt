@@ -2,7 +2,7 @@
 
 #![tactic(auto)]
 
-ghost use Rattle.std.specs.Prelude.{◌≡◌, ◌+◌, ◌<◌, ◌≤◌, length, pos, ◌+ℤ◌, ◌-ℤ◌, int_lt};
+ghost use Rattle.std.specs.Prelude.{◌≡◌, ltb, ◌+◌, ◌<◌, ◌≤◌, length, pos, ◌+ℤ◌, ◌-ℤ◌, int_lt};
 ghost use Rattle.std.specs.Int.{w64};
 ghost use Rattle.machine.specs.Memory.{lent, inside as inside_of, load as load_of, store as store_of};
 ghost use Rattle.machine.specs.Words.{difference as difference_of, number, outside, placed, signed, sum as sum_of};
@@ -21,6 +21,16 @@ pub fn inside(memory: &[u8], at: u64) -> bool
     let last = std::num::wrapping_add_u64(at, 7);
     let size = memory.len() as u64;
     (at <= last) & (last < size)
+}
+
+// The word at a reaches the address or goes past it; no sum is made that could wrap.
+pub fn reaches(a: u64, address: u64) -> bool
+    ensures { result ≡ ltb address (a + 8) }
+{
+    if address < a {
+        return true;
+    }
+    address - a < 8
 }
 
 // The number in the eight bytes from `at` on, taken from the last byte down, as the definition recurses.

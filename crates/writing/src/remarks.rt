@@ -73,27 +73,61 @@ fn put_load(buffer: &mut [u8], at: usize, ra: u8, rb: u8, constant: u64) -> usiz
     put_then_register(buffer, second, b"), ", ra)
 }
 
-// What stands behind the name, by code: nothing, rA and rB, C and rB, rA to memory, memory to rA, C, rA.
-const SHAPES: [u8; 13] = [0, 0, 1, 2, 3, 4, 1, 5, 5, 0, 6, 6, 2];
+// What stands behind the name: nothing; rA and rB; C and rB; rA to memory; memory to rA; C; rA.
+#[derive(Clone, Copy)]
+pub enum Operands {
+    Nothing,
+    Pair,
+    Immediate,
+    Store,
+    Load,
+    Target,
+    Single,
+}
+
+// By code.
+const OPERANDS: [Operands; 13] = [
+    Operands::Nothing, // halt
+    Operands::Nothing, // nop
+    Operands::Pair, // cmovXX
+    Operands::Immediate, // irmovq
+    Operands::Store, // rmmovq
+    Operands::Load, // mrmovq
+    Operands::Pair, // OPq
+    Operands::Target, // jXX
+    Operands::Target, // call
+    Operands::Nothing, // ret
+    Operands::Single, // pushq
+    Operands::Single, // popq
+    Operands::Immediate, // iaddq
+];
+
+// A code past the last instruction has none.
+#[tactic(auto, unfolding(crate::specs::Remark::operands_of))]
+fn operands_of(code: u8) -> Operands
+    ensures { result ≡ get_or operands_of code nothing }
+{
+    let row = code as usize;
+    if row < 13 {
+        OPERANDS[row]
+    } else {
+        Operands::Nothing
+    }
+}
 
 fn put_operands(buffer: &mut [u8], at: usize, code: u8, ra: u8, rb: u8, constant: u64) -> usize
     requires { at + 42 < 2 ^ 64 }
     ensures put { Put (operands (get_or operands_of code nothing) ra rb constant) at buffer.old result buffer.new }
     ensures upper_bound { result ≤ at + 42 }
 {
-    if 13 <= code {
-        return at;
-    }
-    let row = code as usize;
-    let shape = SHAPES[row];
-    match shape {
-        1 => put_pair(buffer, at, ra, rb),
-        2 => put_immediate(buffer, at, rb, constant),
-        3 => put_store(buffer, at, ra, rb, constant),
-        4 => put_load(buffer, at, ra, rb, constant),
-        5 => put_then_constant(buffer, at, b" ", constant),
-        6 => put_then_register(buffer, at, b" ", ra),
-        _ => at,
+    match operands_of(code) {
+        Operands::Nothing => at,
+        Operands::Pair => put_pair(buffer, at, ra, rb),
+        Operands::Immediate => put_immediate(buffer, at, rb, constant),
+        Operands::Store => put_store(buffer, at, ra, rb, constant),
+        Operands::Load => put_load(buffer, at, ra, rb, constant),
+        Operands::Target => put_then_constant(buffer, at, b" ", constant),
+        Operands::Single => put_then_register(buffer, at, b" ", ra),
     }
 }
 

@@ -1,31 +1,32 @@
-use Rattle.writing.proofs.Notation.{no_operands, as_pair, as_immediate, as_store, as_load, as_target, as_single, as_nothing}
+use Rattle.writing.proofs.Notation.{as_kind}
 use Rattle.text.specs.Bytes.{bytes}
-use borrow.Author.Rules.{rules}
+use Rattle.text.specs.Put.{put_nothing}
+use Rattle.writing.specs.Remark.{operands}
 use native.Mathlib.Omega.{arith}
 use Rattle.writing.proofs.remarks.put_operands.Goals as goal
 
-pub returns-then-code-ge13 : goal.returns-then-code-ge13
-returns-then-code-ge13 c = record { put = search (rules, no_operands); upper_bound = omega arith }
+pub returns-in-Nothing : goal.returns-in-Nothing
+unfolding operands
+returns-in-Nothing c = record { put = as_kind _ _ _ _ _ _ c.operands_of.ensures c.in-Nothing.is (put_nothing _ _); upper_bound = omega arith }
 
-pub returns-in-1 : goal.returns-in-1
-returns-in-1 c = record { put = search (rules, as_pair); upper_bound = omega arith }
+pub returns-in-Pair : goal.returns-in-Pair
+unfolding operands
+returns-in-Pair c = record { put = as_kind _ _ _ _ _ _ c.operands_of.ensures c.in-Pair.is c.put_pair.ensures.put; upper_bound = omega arith }
 
-pub returns-in-2 : goal.returns-in-2
-returns-in-2 c = record { put = search (rules, as_immediate); upper_bound = omega arith }
+pub returns-in-Immediate : goal.returns-in-Immediate
+unfolding operands
+returns-in-Immediate c = record { put = as_kind _ _ _ _ _ _ c.operands_of.ensures c.in-Immediate.is c.put_immediate.ensures.put; upper_bound = omega arith }
 
-pub returns-in-3 : goal.returns-in-3
-returns-in-3 c = record { put = search (rules, as_store); upper_bound = omega arith }
+pub returns-in-Store : goal.returns-in-Store
+returns-in-Store c = record { put = as_kind _ _ _ _ _ _ c.operands_of.ensures c.in-Store.is c.put_store.ensures.put; upper_bound = omega arith }
 
-pub returns-in-4 : goal.returns-in-4
-returns-in-4 c = record { put = search (rules, as_load); upper_bound = omega arith }
+pub returns-in-Load : goal.returns-in-Load
+returns-in-Load c = record { put = as_kind _ _ _ _ _ _ c.operands_of.ensures c.in-Load.is c.put_load.ensures.put; upper_bound = omega arith }
 
-pub returns-in-5 : goal.returns-in-5
-unfolding bytes
-returns-in-5 c = record { put = search (rules, as_target); upper_bound = omega arith }
+pub returns-in-Target : goal.returns-in-Target
+unfolding operands bytes
+returns-in-Target c = record { put = as_kind _ _ _ _ _ _ c.operands_of.ensures c.in-Target.is c.put_then_constant.ensures.put; upper_bound = omega arith }
 
-pub returns-in-6 : goal.returns-in-6
-unfolding bytes
-returns-in-6 c = record { put = search (rules, as_single); upper_bound = omega arith }
-
-pub returns-in_default : goal.returns-in_default
-returns-in_default c = record { put = search (rules, as_nothing); upper_bound = omega arith }
+pub returns-in-Single : goal.returns-in-Single
+unfolding operands bytes
+returns-in-Single c = record { put = as_kind _ _ _ _ _ _ c.operands_of.ensures c.in-Single.is c.put_then_register.ensures.put; upper_bound = omega arith }
