@@ -20,8 +20,6 @@ use Rattle.machine.specs.Table.{row_of, Accesses}
 use Rattle.machine.specs.Fetch.{size_at, fetch}
 use Rattle.machine.specs.Stages.{storing, stores, decode, source_a, source_b, execute, result_target, loaded_target, new_registers}
 use Rattle.machine.specs.Plain.{plain_of, fetched, decoded, executed}
-use Rattle.text.specs.Put.{Put, put_front, put_length}
-use Rattle.trace.specs.Verdict.{begins}
 use Rattle.checking.specs.declared.stores.Store.{Store}
 use Rattle.checking.specs.declared.stores.Stores.{Stores}
 use Rattle.checking.specs.Stores.{store_by, hits, touched_by, written_by}
@@ -75,33 +73,3 @@ pub value_is : (r r1 r2 : List ℕ) (w : Accessed) (q t l v : ℕ) → t ≡ res
     → l ≡ loaded_target w.instruction → r2 ≡ written r1 l w.word → v ≡ value r2 q → v ≡ value (new_registers w r) q
 unfolding new_registers
 value_is r r1 r2 w q t l v e f g h j = cc
-
--- THE LINE: the buffer begins with it
-module _ (line buffer after text : List ℕ) (n at : ℕ) (put : Put line 0 buffer n after) (size : length buffer ≡ 88) (within : n ≤ 0 + 88) where
-  long : length line ≤ length buffer
-  long = omega (arith, put.place)
-
-  pub part_long : n ≡ length (take n after)
-  part_long = sym (length-take-le n after (omega (arith, put_length put)))
-
-  first_part : take n after ≡ line
-  first_part =
-      let e = put_front put long in
-      let n_is : n ≡ length line = ap (λ (x : ℕ × List ℕ). x.0) e in
-      let after_is : after ≡ line ++ drop (length line) buffer = ap (λ (x : ℕ × List ℕ). x.1) e in
-      rw (after_is, n_is) (take_at line (drop (length line) buffer) (length line) refl)
-
-  rest : take (length text - at) (drop at text) ≡ drop at text
-  rest = take_all (length text - at) (drop at text) (omega (arith, length-drop at text))
-
-  module _ (b : Bool) (tested : b ≡ begins (take n after) (take (length text - at) (drop at text))) where
-    same : b ≡ begins line (drop at text)
-    same = tested ∙ (ap (λ (x : List ℕ). begins x (take (length text - at) (drop at text))) first_part ∙ ap (begins line) rest)
-
-    pub passed_it : b ≡ true → at + n ≡ cond (begins line (drop at text)) (at + length line) at
-    passed_it h =
-        let n_is : n ≡ length line = ap (λ (x : ℕ × List ℕ). x.0) (put_front put long) in
-        rw (sym same ∙ h) (ap (λ (k : ℕ). at + k) n_is)
-
-    pub stayed : b ≡ false → at ≡ cond (begins line (drop at text)) (at + length line) at
-    stayed h = rw (sym same ∙ h)
