@@ -5,17 +5,15 @@
 mod line;
 mod lines;
 
-ghost use Rattle.std.specs.Prelude.{◌≡◌, cond, List, ℕ, ◌≤◌, T, length};
-ghost use Rattle.machine.specs.Memory.{lent};
-ghost use Rattle.peaks.specs.Division.{mean_is_number};
+ghost use Rattle.std.specs.Prelude.{◌≡◌, List, ℕ};
 ghost use Rattle.report_lines.specs.Lines.{number_line};
 ghost use Rattle.text.specs.Put.{written};
 ghost use Rattle.dayreport.specs.Lines.{answer_lines};
-ghost use Rattle.dayreport.specs.Program.{answer_numbered, requested, answered_input};
+ghost use Rattle.dayreport.specs.Program.{requested, answered_input};
 
 use crate::line::{FirstLine, Request, read_line};
 use crate::lines::put_day;
-use peaks::Answer;
+use peaks::{Day, Refusal};
 use report_lines::put_number;
 
 // No answer is longer than 144 bytes, so that it always fits.
@@ -25,13 +23,12 @@ fn write_refusal(number: u64, out: &mut [u8; 144]) -> usize
     put_number(out, 0, b"refused", number)
 }
 
-fn write_answer(answer: Answer, out: &mut [u8; 144]) -> usize
-    requires { T (answer_numbered answer) }
+fn write_answer(answer: Result<Day, Refusal>, out: &mut [u8; 144]) -> usize
     ensures { ◌≡◌ {A = ℕ × List ℕ} (result, out.new) (written (answer_lines answer) out.old) }
 {
     match answer {
-        Answer::Refused(number) => write_refusal(number, out),
-        Answer::Judged(day) => put_day(out, 0, day),
+        Err(refusal) => write_refusal(refusal.into(), out),
+        Ok(day) => put_day(out, 0, day),
     }
 }
 

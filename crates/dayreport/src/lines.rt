@@ -1,11 +1,9 @@
 // The six lines of a day.
-ghost use Rattle.std.specs.Prelude.{not, ◌+◌, ◌^◌, ◌≤◌, ◌<◌, T};
-ghost use Rattle.std.specs.Float.Ieee.{is_nan};
-ghost use Rattle.peaks.specs.Division.{mean_is_number};
+ghost use Rattle.std.specs.Prelude.{◌+◌, ◌^◌, ◌≤◌, ◌<◌};
 ghost use Rattle.text.specs.Put.{Put};
 ghost use Rattle.dayreport.specs.Lines.{filed_line, peak_lines, total_lines, found_lines, missing_lines, day_lines};
 
-use peaks::{Comparison, Day, Found, Raw};
+use peaks::{Comparison, Day, Raw};
 use report_lines::put_number;
 use text::put_text;
 
@@ -41,15 +39,14 @@ fn put_totals(buffer: &mut [u8], at: usize, day: Day) -> usize
 }
 
 fn put_found(buffer: &mut [u8], at: usize, day: Day, raw: Raw) -> usize
-    requires { (at + 144 < 2 ^ 64) × T (not (is_nan raw.mean)) }
+    requires { at + 144 < 2 ^ 64 }
     ensures put { Put (found_lines day raw) at buffer.old result buffer.new }
     ensures upper_bound { result ≤ at + 144 }
 {
-    let filed = raw.filed;
     let a = put_peak(buffer, at, raw);
     let b = put_totals(buffer, a, day);
-    let c = put_number(buffer, b, b"mean", peaks::mean_bits(raw));
-    put_filed(buffer, c, filed)
+    let c = put_number(buffer, b, b"mean", raw.mean_bits());
+    put_filed(buffer, c, raw.filed)
 }
 
 // A dash for what is missing.
@@ -64,13 +61,12 @@ fn put_missing(buffer: &mut [u8], at: usize, day: Day) -> usize
 }
 
 pub fn put_day(buffer: &mut [u8], at: usize, day: Day) -> usize
-    requires { (at + 144 < 2 ^ 64) × T (mean_is_number day.found) }
+    requires { at + 144 < 2 ^ 64 }
     ensures put { Put (day_lines day) at buffer.old result buffer.new }
     ensures upper_bound { result ≤ at + 144 }
 {
-    let found = day.found;
-    match found {
-        Found::NoGoodSample => put_missing(buffer, at, day),
-        Found::GoodSamples(raw) => put_found(buffer, at, day, raw),
+    match day.found {
+        None => put_missing(buffer, at, day),
+        Some(raw) => put_found(buffer, at, day, raw),
     }
 }
