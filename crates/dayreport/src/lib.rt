@@ -5,17 +5,15 @@
 mod line;
 mod lines;
 
-ghost use Rattle.std.specs.Prelude.{◌≡◌, List, ℕ, T};
-ghost use Rattle.machine.specs.Memory.{lent};
-ghost use Rattle.peaks.specs.Division.{mean_is_number};
+ghost use Rattle.std.specs.Prelude.{◌≡◌, List, ℕ};
 ghost use Rattle.report_lines.specs.Lines.{number_line};
 ghost use Rattle.text.specs.Put.{written};
 ghost use Rattle.dayreport.specs.Lines.{day_lines, answer_lines};
-ghost use Rattle.dayreport.specs.Program.{answer_numbered, requested, answered_input};
+ghost use Rattle.dayreport.specs.Program.{requested, answered_input};
 
 use crate::line::{FirstLine, Request, read_line};
 use crate::lines::put_day;
-use peaks::{Answer, Day};
+use peaks::{Day, Refusal};
 use report_lines::put_number;
 use text::Writer;
 
@@ -29,7 +27,6 @@ fn write_refusal(number: u64, out: &mut [u8; 144]) -> usize
 }
 
 fn write_day(day: Day, out: &mut [u8; 144]) -> usize
-    requires { T (mean_is_number day.found) }
     ensures { ◌≡◌ {A = ℕ × List ℕ} (result, out.new) (written (day_lines day) out.old) }
 {
     let mut writer = Writer::new(out);
@@ -37,13 +34,12 @@ fn write_day(day: Day, out: &mut [u8; 144]) -> usize
     writer.length()
 }
 
-fn write_answer(answer: Answer, out: &mut [u8; 144]) -> usize
-    requires { T (answer_numbered answer) }
+fn write_answer(answer: Result<Day, Refusal>, out: &mut [u8; 144]) -> usize
     ensures { ◌≡◌ {A = ℕ × List ℕ} (result, out.new) (written (answer_lines answer) out.old) }
 {
     match answer {
-        Answer::Refused(number) => write_refusal(number, out),
-        Answer::Judged(day) => write_day(day, out),
+        Err(refusal) => write_refusal(refusal.into(), out),
+        Ok(day) => write_day(day, out),
     }
 }
 

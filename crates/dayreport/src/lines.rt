@@ -1,11 +1,9 @@
 // The six lines of a day.
-ghost use Rattle.std.specs.Prelude.{not, ◌≤◌, T, length};
-ghost use Rattle.std.specs.Float.Ieee.{is_nan};
-ghost use Rattle.peaks.specs.Division.{mean_is_number};
+ghost use Rattle.std.specs.Prelude.{◌≤◌, length};
 ghost use Rattle.text.specs.Put.{Put};
 ghost use Rattle.dayreport.specs.Lines.{filed_line, peak_lines, total_lines, found_lines, missing_lines, day_lines};
 
-use peaks::{Comparison, Day, Found, Raw};
+use peaks::{Comparison, Day, Raw};
 use report_lines::put_number;
 use text::Writer;
 
@@ -36,15 +34,13 @@ fn put_totals(out: &mut Writer<'_>, day: Day)
 
 // The mean's bits are a word, so that the lines are short.
 fn put_found(out: &mut Writer<'_>, day: Day, raw: Raw)
-    requires { T (not (is_nan raw.mean)) }
     ensures put { Put (found_lines day raw) out.old out.new }
     ensures short { length (found_lines day raw) ≤ 144 }
 {
-    let filed = raw.filed;
     put_peak(out, raw);
     put_totals(out, day);
-    put_number(out, b"mean", peaks::mean_bits(raw));
-    put_filed(out, filed);
+    put_number(out, b"mean", raw.mean_bits());
+    put_filed(out, raw.filed);
 }
 
 // A dash for what is missing.
@@ -57,13 +53,11 @@ fn put_missing(out: &mut Writer<'_>, day: Day)
 }
 
 pub fn put_day(out: &mut Writer<'_>, day: Day)
-    requires { T (mean_is_number day.found) }
     ensures put { Put (day_lines day) out.old out.new }
     ensures short { length (day_lines day) ≤ 144 }
 {
-    let found = day.found;
-    match found {
-        Found::NoGoodSample => put_missing(out, day),
-        Found::GoodSamples(raw) => put_found(out, day, raw),
+    match day.found {
+        None => put_missing(out, day),
+        Some(raw) => put_found(out, day, raw),
     }
 }

@@ -1,10 +1,11 @@
-use Rattle.std.proofs.Common.{◌^◌, length, arith}
+use Rattle.std.proofs.Common.{◌+◌, length, arith, sym, le-ltb}
 use Rattle.machine.specs.Memory.{inside}
-use Rattle.word.proofs.Wrapping.{unwrapped_below}
 use Rattle.word.proofs.inside.Goals as goal
 
-pub returns : goal.returns
+pub returns-in-Some : goal.returns-in-Some
 unfolding inside
-returns c =
-    let a = c.args in
-    rw c.wrapping_add_u64-last.ensures.value (unwrapped_below (2 ^ 64) a.at 7 (length a.memory.now) (omega arith) (omega arith) (omega arith))
+returns-in-Some c = rw (c.in-Some.ensures.1)
+
+pub returns-in-None : goal.returns-in-None
+unfolding inside
+returns-in-None c = sym (le-ltb (c.args.at + 7) (length c.args.memory.now) (omega (arith, c.in-None.ensures)))

@@ -5,4 +5,4 @@ use Rattle.word.proofs.negative.Goals as goal
 
 pub returns : goal.returns
 unfolding signed
-returns c = rw (c.signed_word.ensures, to_z-of_z w64 _ (to_z-Fits w64 c.args.x c.ranges.x))
+returns c = rw (c.cast_signed.ensures, to_z-of_z w64 _ (to_z-Fits w64 c.args.x c.ranges.x))

@@ -1,15 +1,16 @@
 use Rattle.std.proofs.Common.{w64}
-use mir.ValLaws.{of_z-to_z}
+use mir.ValLaws.{to_z-of_z}
 use Rattle.machine.specs.Words.{signed}
+use Rattle.word.proofs.Overflow.{outside_is}
 use Rattle.word.proofs.sum_outside.Goals as goal
 
 pub returns : goal.returns
 unfolding signed
 returns c =
     rw (
-      c.signed_sum_outside.ensures,
-      c.signed_word-2.ensures,
-      c.signed_word.ensures,
-      of_z-to_z w64 _ c.ranges.b,
-      of_z-to_z w64 _ c.ranges.a,
+      to_z-of_z w64 c.cast_signed.result (record { sfits = c.cast_signed.type_inv }),
+      to_z-of_z w64 c.cast_signed-2.result (record { sfits = c.cast_signed-2.type_inv }),
+      c.cast_signed.ensures,
+      c.cast_signed-2.ensures,
     )
+    at (outside_is w64 _ _ c.overflowing_add.ensures.overflow)
