@@ -10,4 +10,4 @@ mod reading;
 
 pub use decimal::put_decimal;
 pub use putting::{put_byte, put_text};
-pub use reading::{Field, read_decimal, read_field};
+pub use reading::{read_decimal, read_field};
