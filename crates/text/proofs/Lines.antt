@@ -1,6 +1,6 @@
 -- The lines of a text, as `split_inclusive` at line feeds gives them. Assumes nothing.
 use mathlib.Core.Path.{◌≡◌, refl, sym, ap, subst, ◌∙◌}
-use mathlib.Core.Bool.{Bool, true, false, cond}
+use mathlib.Core.Bool.{Bool, true, false}
 use mathlib.Core.List.{List, [], ◌∷◌, ◌++◌}
 use Prim.Native.Nat.{ℕ, suc, ◌+◌, ◌≤◌, ◌<◌, min}
 use native.Mathlib.Omega.{arith}
@@ -8,19 +8,20 @@ use lib.Dec.{eqb, ltb}
 use lib.ListN.{length, get_or, take, drop, take-append-drop, length-take}
 use lib.Seq.{drop-cons, take_at, drop_at, take-suc}
 use borrow.Author.Tests.{ltb-true, ltb-false, eqb-true}
-use Rattle.std.proofs.Common.{get_or-take, append-nil, length-append}
+use Rattle.std.proofs.Common.{get_or-take, zero-add, append-nil, length-append}
 use denote.Ref.{Bor}
 use denote.Param.Members.{Mut}
 use Rattle.std.specs.Prelude.{Option, MatchOption}
 use Rattle.std.specs.Fn.{ComputesKey, CalledAt}
-use Rattle.std.specs.List.{IsFirstMatchOrLen}
+use Rattle.std.specs.List.{IsFirstMatchOrLen, enumerate_from}
+use Rattle.std.proofs.lemmas.List.FromFn.{length-enumerate_from, get_or-enumerate_from}
 use Rattle.std.specs.declared.slice.SplitInclusive.{SplitInclusive}
 use Rattle.std.specs.Slice.Iter.{split_inclusive_rest, split_inclusive_callee}
 use Rattle.std.proofs.lemmas.Fn.{always_returns_same}
 use Rattle.std.proofs.lemmas.Iterator.{YieldsList}
 use Rattle.std.proofs.lemmas.Iterator.Splits.{YieldsList-from_shown_while}
 use Rattle.std.proofs.lemmas.List.{nil_from_length}
-use Rattle.text.specs.Parts.{Text, has, line_feed, longer, lines}
+use Rattle.text.specs.Parts.{Text, has, line_feed, lines}
 use Rattle.std.proofs.lemmas.List.{nil_from_length}
 use Rattle.text.specs.PartsLaws.{lines_joined, lines_last}
 
@@ -78,16 +79,9 @@ YieldsList-from_split_inclusive {s = s} g {f} t rest closure tests =
     (λ u x v h k. ((k.1.2 p h).0, first _ x.now _ k.1.0 k.0 k.1.1 (k.1.2 p h).1 k.2))
     s (subst (ComputesKey g p) (sym closure) (always_returns_same g (λ a r. r ≡ p a.0.now) f (λ a r q k. let m = tests a.0.now r q (record { shown = a.0; shows = refl; called = k }) in (m.1, m.0)))))
 
--- no line is empty, so that there are no more lines than bytes
-longer_by_none : (x : ℕ) (ls : List Text) → length (longer x ls) ≤ suc (length ls)
-longer_by_none x [] = omega arith
-longer_by_none x (l ∷ ls) = omega arith
-
-pub few_lines : (t : Text) → length (lines t) ≤ length t
-unfolding lines
-few_lines [] = omega arith
-few_lines (x ∷ t) = go (eqb x line_feed) (few_lines t)
-  where
-    go : (b : Bool) → length (lines t) ≤ length t → length (cond b ((x ∷ []) ∷ lines t) (longer x (lines t))) ≤ suc (length t)
-    go true h = omega arith
-    go false h = omega (arith, longer_by_none x (lines t))
+-- a line of them and its number from 0, as a loop over `enumerate` has them
+pub numbered : (ls : List Text) (i n : ℕ) (l : Text) → (i < length (enumerate_from 0 ls)) × ((n, l) ≡ get_or (enumerate_from 0 ls) i (n, l)) → (i < length ls) × (n ≡ i) × (l ≡ get_or ls i l)
+numbered ls i n l h =
+    let k : i < length ls = omega (arith, h.0, length-enumerate_from 0 ls) in
+    let e = h.1 ∙ get_or-enumerate_from 0 ls i (n, l) k in
+    (k, ap (λ (p : ℕ × Text). p.0) e ∙ zero-add i, ap (λ (p : ℕ × Text). p.1) e)
