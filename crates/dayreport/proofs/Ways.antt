@@ -20,9 +20,8 @@ use Rattle.report_lines.specs.Lines.{number_line}
 use Rattle.report.specs.Report.{image_refused, image_run}
 use Rattle.text.specs.Put.{written}
 use Rattle.dayreport.specs.declared.line.Request.{Request}
-use Rattle.dayreport.specs.declared.line.FirstLine.{FirstLine}
-use Rattle.dayreport.specs.declared.line.FirstLine.TheVariants.{BadLine as bad_line, Asks as asks}
-use Rattle.dayreport.specs.Line.{first_line}
+use Rattle.std.specs.Prelude.{None as bad_line, Some as asks}
+use Rattle.dayreport.specs.Line.{FirstLine, first_line}
 use Rattle.dayreport.specs.Lines.{day_lines, answer_lines}
 use Rattle.dayreport.specs.Program.{answer_numbered, day_answer, request_text, requested, input_text, input_left}
 use Rattle.dayreport.specs.Program.{written_for, answered_input}

@@ -13,13 +13,12 @@ use Rattle.peaks.specs.Day.{mean_bits}
 use Rattle.report_lines.specs.Lines.{line, number_line, number_length}
 use Rattle.report.specs.Report.{image_refused, image_run}
 use Rattle.report.specs.Laws.{refused_by_size}
-use Rattle.text.specs.declared.reading.Field.TheVariants.{Number as number}
+use Rattle.std.specs.Prelude.{Some as number, Some as asks}
 use Rattle.text.specs.Bytes.{bytes}
 use Rattle.text.specs.Decimal.{decimal, is_digit}
 use Rattle.text.specs.Field.{field_ended}
 use Rattle.text.specs.Put.{written_within}
 use Rattle.text.specs.ReadBack.{read_back}
-use Rattle.dayreport.specs.declared.line.FirstLine.TheVariants.{Asks as asks}
 use Rattle.dayreport.specs.Line.{third_of, second_of, first_of, first_line}
 use Rattle.dayreport.specs.Lines.{filed_text, filed_line, peak_lines, total_lines, found_lines, missing, missing_lines}
 use Rattle.dayreport.specs.Program.{written_for, answered_input}
@@ -69,7 +68,7 @@ found_length d raw h i j k l =
 
 -- READ BACK
 read_at : (t front : List ℕ) (n end : ℕ) (rest : List ℕ) (k : ℕ) → n < 2 ^ 64 → is_digit end ≡ false → t ≡ front ++ (decimal n ++ end ∷ rest) → k ≡ length front
-    → field_ended t k end ≡ number n (k + length (decimal n) + 1)
+    → field_ended t k end ≡ number (n, k + length (decimal n) + 1)
 read_at t front n end rest k h d e f = rw (e, f) (read_back front n end rest h d)
 
 -- three decimal numbers, a tab behind each of the first two and a line feed behind the last, are the first line, and the rest is the image
@@ -83,9 +82,9 @@ module _ (table size filed : ℕ) (image : List ℕ) (p : table < 2 ^ 64) (q : s
       let b = a + length (decimal size) + 1 in
       let one = decimal table ++ 9 ∷ [] in
       let two = one ++ (decimal size ++ 9 ∷ []) in
-      let x : field_ended t 0 9 ≡ number table a = read_at t [] table 9 (decimal size ++ 9 ∷ (decimal filed ++ 10 ∷ image)) 0 p refl refl refl in
-      let y : field_ended t a 9 ≡ number size b =
+      let x : field_ended t 0 9 ≡ number (table, a) = read_at t [] table 9 (decimal size ++ 9 ∷ (decimal filed ++ 10 ∷ image)) 0 p refl refl refl in
+      let y : field_ended t a 9 ≡ number (size, b) =
       read_at t one size 9 (decimal filed ++ 10 ∷ image) a q refl (simp append_assoc) (simp length-append (omega arith)) in
-      let z : field_ended t b 10 ≡ number filed (b + length (decimal filed) + 1) =
+      let z : field_ended t b 10 ≡ number (filed, b + length (decimal filed) + 1) =
       read_at t two filed 10 image b r refl (simp append_assoc) (simp length-append (omega arith)) in
       rw (x, y, z)

@@ -6,9 +6,8 @@ use Rattle.peaks.specs.Day.{judged}
 use Rattle.report_lines.specs.Lines.{number_line}
 use Rattle.report.specs.Report.{image_refused, image_run}
 use Rattle.dayreport.specs.declared.line.Request.{Request}
-use Rattle.dayreport.specs.declared.line.FirstLine.{FirstLine}
-use Rattle.dayreport.specs.declared.line.FirstLine.TheVariants.{BadLine as bad_line, Asks as asks}
-use Rattle.dayreport.specs.Line.{first_line}
+use Rattle.std.specs.Prelude.{None as bad_line, Some as asks}
+use Rattle.dayreport.specs.Line.{FirstLine, first_line}
 use Rattle.dayreport.specs.Lines.{answer_lines}
 
 -- THE DAY of the final memory of the pipelined run

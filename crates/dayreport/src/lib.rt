@@ -11,7 +11,7 @@ ghost use Rattle.text.specs.Put.{written};
 ghost use Rattle.dayreport.specs.Lines.{day_lines, answer_lines};
 ghost use Rattle.dayreport.specs.Program.{requested, answered_input};
 
-use crate::line::{FirstLine, Request, read_line};
+use crate::line::{Request, read_line};
 use crate::lines::put_day;
 use peaks::{Day, Refusal};
 use report_lines::put_number;
@@ -62,12 +62,8 @@ fn report_request(request: Request, image: &mut [u8], out: &mut [u8; 144]) -> us
 pub fn report_input(input: &mut [u8], out: &mut [u8; 144]) -> usize
     ensures { ◌≡◌ {A = ℕ × List ℕ × List ℕ} (result, out.new, input.new) (answered_input input.old out.old) }
 {
-    let first = read_line(input);
-    match first {
-        FirstLine::BadLine => write_refusal(4, out),
-        FirstLine::Asks(request) => {
-            let at = request.image;
-            report_request(request, &mut input[at..], out)
-        }
+    match read_line(input) {
+        None => write_refusal(4, out),
+        Some(request) => report_request(request, &mut input[request.image..], out),
     }
 }

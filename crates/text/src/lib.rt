@@ -9,4 +9,4 @@ mod putting;
 mod reading;
 
 pub use putting::Writer;
-pub use reading::{Field, read_decimal, read_field};
+pub use reading::{read_decimal, read_field};
