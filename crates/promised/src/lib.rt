@@ -176,7 +176,7 @@ fn write_report(number: u64, end: Pipeline, out: &mut [u8; 652]) -> usize
     report::write_report(number, end, out)
 }
 
-fn listing_read(text: &[u8], memory: &mut [u8]) -> listing::Answer
+fn listing_read(text: &[u8], memory: &mut [u8]) -> Result<(), listing::Unread>
     ensures { Fits listing_read_lem (text.now, memory.old) (answered result memory.new) }
 {
     listing::read(text, memory)
