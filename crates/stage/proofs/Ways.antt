@@ -130,34 +130,6 @@ pub wrong_in : (g : Core) (s : StageM) (x : Executed) (b : Bool) → s ≡ in_m 
 unfolding wrong
 wrong_in g s x b h p = cc
 
-pub no_ret_d : (d : StageD) → d ≡ bubble_d → false ≡ ret_in_d d
-unfolding ret_in_d
-no_ret_d d h = cc
-
-pub ret_d_lem : (d : StageD) (i : Instruction) → d ≡ in_d i → eqb i.code 9 ≡ ret_in_d d
-unfolding ret_in_d is
-ret_d_lem d i h = cc
-
-pub no_ret_e : (e : StageE) → e ≡ bubble_e → false ≡ ret_in_e e
-unfolding ret_in_e
-no_ret_e e h = cc
-
-pub ret_e_lem : (e : StageE) (x : Decoded) → e ≡ in_e x → eqb x.instruction.code 9 ≡ ret_in_e e
-unfolding ret_in_e is
-ret_e_lem e x h = cc
-
-pub no_ret_m : (s : StageM) → s ≡ bubble_m → false ≡ ret_in_m s
-unfolding ret_in_m
-no_ret_m s h = cc
-
-pub ret_m_lem : (s : StageM) (x : Executed) → s ≡ in_m x → eqb x.instruction.code 9 ≡ ret_in_m s
-unfolding ret_in_m is
-ret_m_lem s x h = cc
-
-pub any_ret : (d : StageD) (e : StageE) (s : StageM) (x y z : Bool) → x ≡ ret_in_d d → y ≡ ret_in_e e → z ≡ ret_in_m s
-    → (x || (y || z)) ≡ (ret_in_d d || (ret_in_e e || ret_in_m s))
-any_ret d e s x y z p q u = cc
-
 pub none_bad : (w : StageW) → w ≡ bubble_w → false ≡ bad_in_w w
 unfolding bad_in_w
 none_bad w h = cc

@@ -1,9 +1,9 @@
 // The signals that the controls go by.
 ghost use Rattle.std.specs.Prelude.{◌≡◌, ◌||◌};
 ghost use Rattle.clocked.specs.Prediction.{core_of, guess as guess_of, meets as meets_of, mispredicted as mispredicted_of, takes_late};
-ghost use Rattle.clocked.specs.Pipeline.{wrong as wrong_of, ret_in_d, ret_in_e, ret_in_m, bad_in_w, patched_in_w};
+ghost use Rattle.clocked.specs.Pipeline.{wrong as wrong_of, ret_in, ret_in_d, ret_in_e, ret_in_m, bad_in_w, patched_in_w};
 
-use clocked::{Settings, StageD, StageE, StageM, StageW};
+use clocked::{Carries, Settings, StageD, StageE, StageM, StageW};
 use isa::decoding::is_bad;
 use machine::{Instruction, JUMP, NONE, RET};
 
@@ -71,44 +71,19 @@ pub fn wrong(settings: Settings, m: StageM) -> bool
     }
 }
 
-fn ret_in_d(d: StageD) -> bool
-    ensures { result ≡ ret_in_d d }
+#[tactic(auto, unfolding(clocked::specs::Pipeline::ret_in, machine::specs::Table::is))]
+fn is_ret_in<T: Carries>(stage: Option<T>) -> bool
+    ensures { result ≡ ret_in T.instruction_of stage }
 {
-    match d {
-        None => false,
-        Some(i) => i.code == RET,
-    }
-}
-
-fn ret_in_e(e: StageE) -> bool
-    ensures { result ≡ ret_in_e e }
-{
-    match e {
-        None => false,
-        Some(x) => {
-            let i = x.instruction;
-            i.code == RET
-        }
-    }
-}
-
-fn ret_in_m(m: StageM) -> bool
-    ensures { result ≡ ret_in_m m }
-{
-    match m {
-        None => false,
-        Some(x) => {
-            let i = x.instruction;
-            i.code == RET
-        }
-    }
+    stage.is_some_and(|x| x.instruction().code == RET)
 }
 
 // ret in D, E or M.
+#[tactic(auto, unfolding(clocked::specs::Pipeline::ret_in_d, clocked::specs::Pipeline::ret_in_e, clocked::specs::Pipeline::ret_in_m))]
 pub fn ret_on_the_way(d: StageD, e: StageE, m: StageM) -> bool
     ensures { result ≡ (ret_in_d d || (ret_in_e e || ret_in_m m)) }
 {
-    ret_in_d(d) | (ret_in_e(e) | ret_in_m(m))
+    is_ret_in(d) | (is_ret_in(e) | is_ret_in(m))
 }
 
 // Bad status in W, or in M after its access.
