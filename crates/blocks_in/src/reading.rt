@@ -8,13 +8,15 @@ use crate::layout::{
 };
 use clocked::{Kept, Kinds, Pipeline, Retired, Settings, StageD, StageE, StageM, StageW};
 use machine::{
-    Accessed, Blame, Codes, Decoded, Executed, Fault, Instruction, Machine, Status, Window,
+    Accessed, Blame, Codes, Decoded, Executed, Fault, Instruction, Machine, REGISTERS, Status,
+    Window,
 };
+use std::array;
 
 // The word at a place of a part; one that the block lacks reads 0.
 fn word_at(block: &[u64], part: u64, place: u64) -> u64 {
-    let at = std::num::wrapping_add_u64(part, place) as usize;
-    if at < block.len() { block[at] } else { 0 }
+    let at = part.wrapping_add(place) as usize;
+    block.get(at).copied().unwrap_or(0)
 }
 
 fn byte_at(block: &[u64], part: u64, place: u64) -> u8 {
@@ -25,26 +27,27 @@ fn truth_at(block: &[u64], part: u64, place: u64) -> bool {
     word_at(block, part, place) % 2 == 1
 }
 
+// The status whose number the word is; any other word reads AOK.
 fn status_at(block: &[u64], part: u64, place: u64) -> Status {
     let number = word_at(block, part, place);
-    match number {
-        2 => Status::Hlt,
-        3 => Status::Adr,
-        4 => Status::Ins,
-        _ => Status::Aok,
-    }
+    let stopped = [Status::Hlt, Status::Adr, Status::Ins];
+    stopped
+        .into_iter()
+        .find(|s| u64::from(*s) == number)
+        .unwrap_or(Status::Aok)
 }
 
+// The fault whose number the word is; any other word reads none.
 fn fault_at(block: &[u64], part: u64, place: u64) -> Option<Fault> {
     let number = word_at(block, part, place);
-    match number {
-        1 => Some(Fault::FirstMissing),
-        2 => Some(Fault::NoCode),
-        3 => Some(Fault::NoFunction),
-        4 => Some(Fault::LaterMissing),
-        5 => Some(Fault::NoRegister),
-        _ => None,
-    }
+    let faults = [
+        Fault::FirstMissing,
+        Fault::NoCode,
+        Fault::NoFunction,
+        Fault::LaterMissing,
+        Fault::NoRegister,
+    ];
+    faults.into_iter().find(|f| u64::from(*f) == number)
 }
 
 fn blame_in(block: &[u64], state: u64) -> Blame {
@@ -73,63 +76,43 @@ fn instruction_in(block: &[u64], part: u64) -> Instruction {
 }
 
 fn d_in(block: &[u64]) -> StageD {
-    if !is_marked(block, D) {
-        return None;
-    }
-    let instruction = instruction_in(block, D);
-    Some(instruction)
+    is_marked(block, D).then(|| instruction_in(block, D))
 }
 
 fn e_in(block: &[u64]) -> StageE {
-    if !is_marked(block, E) {
-        return None;
-    }
-    let decoded = Decoded {
+    is_marked(block, E).then(|| Decoded {
         instruction: instruction_in(block, E),
         a: word_at(block, E, E_A),
         b: word_at(block, E, E_B),
-    };
-    Some(decoded)
+    })
 }
 
 fn m_in(block: &[u64]) -> StageM {
-    if !is_marked(block, M) {
-        return None;
-    }
-    let executed = Executed {
+    is_marked(block, M).then(|| Executed {
         instruction: instruction_in(block, M),
         a: word_at(block, M, M_A),
         result: word_at(block, M, M_RESULT),
         holds: truth_at(block, M, M_HOLDS),
-    };
-    Some(executed)
+    })
 }
 
 fn w_in(block: &[u64]) -> StageW {
-    if !is_marked(block, W) {
-        return None;
-    }
-    let accessed = Accessed {
+    is_marked(block, W).then(|| Accessed {
         instruction: instruction_in(block, W),
         result: word_at(block, W, W_RESULT),
         holds: truth_at(block, W, W_HOLDS),
         word: word_at(block, W, W_WORD),
         status: status_at(block, W, W_STATUS),
         patched: truth_at(block, W, W_PATCHED),
-    };
-    Some(accessed)
+    })
 }
 
 fn kept_in(block: &[u64]) -> Kept {
-    if !is_marked(block, KEPT) {
-        return None;
-    }
-    let retired = Retired {
+    is_marked(block, KEPT).then(|| Retired {
         instruction: instruction_in(block, KEPT),
         holds: truth_at(block, KEPT, KEPT_HOLDS),
         patched: truth_at(block, KEPT, KEPT_PATCHED),
-    };
-    Some(retired)
+    })
 }
 
 fn kinds_in(block: &[u64]) -> Kinds {
@@ -142,24 +125,8 @@ fn kinds_in(block: &[u64]) -> Kinds {
 }
 
 // The registers of a state part, which begins with them.
-pub fn registers_in(block: &[u64], state: u64) -> [u64; 15] {
-    [
-        word_at(block, state, 0),
-        word_at(block, state, 1),
-        word_at(block, state, 2),
-        word_at(block, state, 3),
-        word_at(block, state, 4),
-        word_at(block, state, 5),
-        word_at(block, state, 6),
-        word_at(block, state, 7),
-        word_at(block, state, 8),
-        word_at(block, state, 9),
-        word_at(block, state, 10),
-        word_at(block, state, 11),
-        word_at(block, state, 12),
-        word_at(block, state, 13),
-        word_at(block, state, 14),
-    ]
+pub fn registers_in(block: &[u64], state: u64) -> [u64; REGISTERS] {
+    array::from_fn(|q| word_at(block, state, q as u64))
 }
 
 pub fn codes_in(block: &[u64], state: u64) -> Codes {
@@ -171,12 +138,9 @@ pub fn codes_in(block: &[u64], state: u64) -> Codes {
 }
 
 pub fn window_in(block: &[u64], part: u64) -> Window {
-    if !truth_at(block, part, WINDOWED) {
-        return None;
-    }
-    let first = word_at(block, part, FIRST);
-    let end = word_at(block, part, END);
-    Some((first, end))
+    truth_at(block, part, WINDOWED).then(|| {
+        (word_at(block, part, FIRST), word_at(block, part, END))
+    })
 }
 
 pub fn machine_in(block: &[u64]) -> Machine {
