@@ -60,7 +60,7 @@ the_first false false true d n k h =
 the_first false false false true n k h =
     let e : beyond ≡ k = cc in
     subst (Picked false false false true) e (refl, below_beyond true)
-the_first false false false false n k h = let z : ◌≡◌ {A = ℕ} 0 1 = cc in absurd (omega arith)
+the_first false false false false n k h = absurd (cc)
 
 same_tests : (size free : ℕ) (r : Record) (k : Kind) → holds size free r k ≡ pick (malformed r) (miscounted r) (ltb (address_of r) free) (ltb size (end_of r)) k
 unfolding holds
@@ -98,7 +98,7 @@ kind_of k (wrong f) = f.kind
 
 pub refused_first : (size free m : ℕ) (ls : List Text) (n : ℕ) (k : Kind) → judged size free m ls ≡ faulty n k → FirstFault size free m ls n k
 unfolding judged goes_on
-refused_first size free m [] n k h = let z : ◌≡◌ {A = ℕ} 0 1 = cc in absurd (omega arith)
+refused_first size free m [] n k h = absurd (cc)
 refused_first size free m (l ∷ ls) n k h = go (checked size free l) refl (λ next. refused_first size next (m + 1) ls n k)
   where
     go : (x : Checked) → checked size free l ≡ x → ((next : ℕ) → judged size next (m + 1) ls ≡ faulty n k → FirstFault size next (m + 1) ls n k)
