@@ -4,18 +4,17 @@ use native.Mathlib.Omega.{arith}
 use mathlib.Core.Bool.{Bool, true, false}
 use mathlib.Core.List.{List, [], ◌++◌, append-nil}
 use mathlib.Core.Path.{◌≡◌, sym, ap, ◌∙◌}
-use lib.Dec.{T}
 use lib.ListN.{length, take, drop, length-drop, drop_of_length-le}
 use lib.Seq.{take-length}
 use borrow.Rule.Slice.PartMut.{mid_of, put_mid, Post-is}
 use Rattle.clocked.specs.declared.Pipeline.{Pipeline}
-use Rattle.machine.specs.Memory.{Memory, lent}
+use Rattle.machine.specs.Memory.{lent}
 use Rattle.clocked.specs.PipeRuns.{pipe_answer}
 use Rattle.peaks.specs.declared.Day.{Day}
-use Rattle.peaks.specs.declared.Answer.{Answer}
-use Rattle.peaks.specs.declared.Answer.TheVariants.{Refused as refused, Judged as judged_as}
+use Rattle.peaks.specs.declared.Refusal.{Refusal}
+use Rattle.peaks.specs.Types.{refusal_number}
 use Rattle.peaks.specs.Day.{judged}
-use Rattle.peaks.specs.Division.{mean_is_number, judged_number}
+use Rattle.std.specs.Prelude.{Result, Ok, Err}
 use Rattle.report_lines.specs.Lines.{number_line}
 use Rattle.report.specs.Report.{image_refused, image_run}
 use Rattle.text.specs.Put.{written}
@@ -23,29 +22,20 @@ use Rattle.dayreport.specs.declared.line.Request.{Request}
 use Rattle.std.specs.Prelude.{None as bad_line, Some as asks}
 use Rattle.dayreport.specs.Line.{FirstLine, first_line}
 use Rattle.dayreport.specs.Lines.{day_lines, answer_lines}
-use Rattle.dayreport.specs.Program.{answer_numbered, day_answer, request_text, requested, input_text, input_left}
+use Rattle.dayreport.specs.Program.{day_answer, request_text, requested, input_text, input_left}
 use Rattle.dayreport.specs.Program.{written_for, answered_input}
 
 -- THE ANSWER
-module _ (a : Answer) (out : List ℕ) {b : List ℕ} {r : ℕ} where
-  pub answer_refused : (k : ℕ) → a ≡ refused k → ◌≡◌ {A = ℕ × List ℕ} (r, b) (written (number_line "refused" k) out)
+module _ (a : Result Day Refusal) (out : List ℕ) {b : List ℕ} {r : ℕ} where
+  pub answer_refused : (k : Refusal) (n : ℕ) → a ≡ Err k → n ≡ refusal_number k → ◌≡◌ {A = ℕ × List ℕ} (r, b) (written (number_line "refused" n) out)
       → ◌≡◌ {A = ℕ × List ℕ} (r, b) (written (answer_lines a) out)
   unfolding answer_lines
-  answer_refused k e x = rw e x
+  answer_refused k n e f x = rw (e, ← f) x
 
-  pub answer_day : (d : Day) → a ≡ judged_as d → ◌≡◌ {A = ℕ × List ℕ} (r, b) (written (day_lines d) out)
+  pub answer_day : (d : Day) → a ≡ Ok d → ◌≡◌ {A = ℕ × List ℕ} (r, b) (written (day_lines d) out)
       → ◌≡◌ {A = ℕ × List ℕ} (r, b) (written (answer_lines a) out)
   unfolding answer_lines
   answer_day d e x = rw e x
-
-pub day_numbered : (a : Answer) (d : Day) → a ≡ judged_as d → T (answer_numbered a) → T (mean_is_number d.found)
-unfolding answer_numbered
-day_numbered a d e h = rw e at h
-
-pub judged_numbered : (a : Answer) (m : Memory) (table n filed : ℕ) → a ≡ judged m table n filed → T (answer_numbered a)
-unfolding answer_numbered
-judged_numbered (refused k) m table n filed h = tt
-judged_numbered (judged_as d) m table n filed h = judged_number m table n filed d (sym h)
 
 -- THE REQUEST
 module _ (q : Request) (image out : List ℕ) (i : Bool) (h : i ≡ image_refused (length image)) {b : List ℕ} {r : ℕ} where
@@ -54,7 +44,7 @@ module _ (q : Request) (image out : List ℕ) (i : Bool) (h : i ≡ image_refuse
   unfolding requested request_text image_run
   request_refused t e = rw (sym h ∙ t) (ap (λ (x : ℕ × List ℕ). (x.0, x.1, image)) e)
 
-  pub request_done : (n : ℕ) (p : Pipeline) (image' : List ℕ) (a : Answer) → i ≡ false → pipe_answer n p (lent image') [] [] ≡ image_run image
+  pub request_done : (n : ℕ) (p : Pipeline) (image' : List ℕ) (a : Result Day Refusal) → i ≡ false → pipe_answer n p (lent image') [] [] ≡ image_run image
       → a ≡ judged (lent image') q.table q.length q.filed
       → ◌≡◌ {A = ℕ × List ℕ} (r, b) (written (answer_lines a) out) → ◌≡◌ {A = ℕ × List ℕ × List ℕ} (r, b, image') (requested q image out)
   unfolding requested request_text day_answer

@@ -1,17 +1,13 @@
 use native.Mathlib.Omega.{arith}
-use Rattle.peaks.specs.Division.{raw_number}
 use Rattle.dayreport.specs.Lines.{lines_of, day_lines}
 use Rattle.dayreport.specs.Laws.{missing_length}
 use Rattle.dayreport.proofs.lines.put_day.Goals as goal
 
-pub put_found-requires : goal.put_found-requires
-put_found-requires c = raw_number c.args.day _ c.in-GoodSamples.is c.requires
-
-pub returns-in-NoGoodSample : goal.returns-in-NoGoodSample
+pub returns-in-None : goal.returns-in-None
 unfolding day_lines lines_of
-returns-in-NoGoodSample c =
-    rw c.in-NoGoodSample.is (record { put = c.put_missing.ensures; short = missing_length c.args.day (omega arith) (omega arith) })
+returns-in-None c =
+    rw c.in-None.is (record { put = c.put_missing.ensures; short = missing_length c.args.day (omega arith) (omega arith) })
 
-pub returns-in-GoodSamples : goal.returns-in-GoodSamples
+pub returns-in-Some : goal.returns-in-Some
 unfolding day_lines lines_of
-returns-in-GoodSamples c = rw c.in-GoodSamples.is (record { put = c.put_found.ensures.put; short = c.put_found.ensures.short })
+returns-in-Some c = rw c.in-Some.is (record { put = c.put_found.ensures.put; short = c.put_found.ensures.short })
