@@ -1,6 +1,6 @@
 -- Laws of the reading. Assumes nothing.
 use Rattle.std.specs.Prelude.{◌≡◌, refl, Bool, true, false, cond, [], ◌∷◌, ◌++◌, ℕ, ◌+◌, ◌≤◌, ltb, length}
-use Rattle.std.proofs.Common.{ap, arith, ltb-false}
+use Rattle.std.proofs.Common.{ap, ltb-false}
 use Rattle.laws.specs.Tests.{neither}
 use Rattle.text.specs.Parts.{Text, has, before, behind, line_feed, lines}
 use Rattle.text.specs.PartsLaws.{has_joined, has_before, before_joined, lines_first, lines_last}
