@@ -189,7 +189,12 @@ fn edge_listing(text: &[u8], memory: &mut [u8], fault: &mut [u8]) -> u64
     edge::y86_read_listing(text, memory, fault)
 }
 
-fn day_judged(memory: &[u8], table: u64, length: u64, filed: u64) -> peaks::Answer
+fn day_judged(
+    memory: &[u8],
+    table: u64,
+    length: u64,
+    filed: u64,
+) -> Result<peaks::Day, peaks::Refusal>
     ensures { Fits day_judged (lent memory.now, table, length, filed) result }
 {
     peaks::judge(memory, table, length, filed)
