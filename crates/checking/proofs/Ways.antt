@@ -1,12 +1,10 @@
 -- One law for each way out of a function. Assumes nothing.
-use mathlib.Core.Path.{◌≡◌, refl, ap, sym, ◌∙◌}
-use mathlib.Core.Bool.{Bool, true, false, cond, ◌&&◌, ◌||◌}
-use mathlib.Core.List.{List, ◌++◌}
-use Prim.Native.Nat.{ℕ, ◌+◌, ◌-◌, ◌/◌, ◌≤◌}
-use native.Mathlib.Omega.{arith}
+use mathlib.Core.Path.{◌≡◌, refl}
+use mathlib.Core.Bool.{Bool, true, false, ◌&&◌, ◌||◌}
+use mathlib.Core.List.{List}
+use Prim.Native.Nat.{ℕ, ◌+◌, ◌/◌, ◌≤◌}
 use lib.Dec.{ltb}
-use lib.ListN.{length, take, drop, get_or, length-drop}
-use lib.Seq.{take_all, take_at, length-take-le}
+use lib.ListN.{length, get_or}
 use borrow.Author.Tests.{le-ltb}
 use Rattle.machine.specs.declared.Accessed.{Accessed}
 use Rattle.machine.specs.declared.Executed.{Executed}

@@ -2,7 +2,7 @@
 
 #![tactic(auto)]
 
-ghost use Rattle.std.specs.Prelude.{◌≡◌, ◌<◌};
+ghost use Rattle.std.specs.Prelude.{◌≡◌};
 ghost use Rattle.text.specs.Bytes.{bytes};
 ghost use Rattle.text.specs.Put.{Put};
 ghost use Rattle.report_lines.specs.Lines.{number_line};
@@ -16,16 +16,15 @@ const NAMES: [&[u8]; 15] = [
     b"r12", b"r13", b"r14",
 ];
 
-fn name_of(k: usize) -> &'static [u8]
-    requires { k < 15 }
+// A register's name; 15 and above have none.
+pub fn name_of(k: usize) -> &'static [u8]
     ensures { result.now ≡ bytes (register_name k) }
 {
-    NAMES[k]
+    if k < 15 { NAMES[k] } else { b"" }
 }
 
 // A register's name and value.
 pub fn put_named(out: &mut Writer<'_>, k: usize, v: u64)
-    requires { k < 15 }
     ensures { Put (number_line (register_name k) v) out.old out.new }
 {
     put_number(out, name_of(k), v);
@@ -33,7 +32,6 @@ pub fn put_named(out: &mut Writer<'_>, k: usize, v: u64)
 
 // A register that is not 0 has a line.
 fn put_register(out: &mut Writer<'_>, k: usize, v: u64)
-    requires { k < 15 }
     ensures { Put (register_line k v) out.old out.new }
 {
     if v != 0 {

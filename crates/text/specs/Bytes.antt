@@ -12,13 +12,26 @@ unfoldable pub bytes : String → list.List ℕ
 bytes [] = list.[]
 bytes (c ∷ s) = list.◌∷◌ (code c) (bytes s)
 
--- a table of such texts, read at a place that it has
-pub text_at : (names : list.List String) (texts : list.List (Bor (list.List ℕ))) (k : ℕ) (none : Bor (list.List ℕ)) → map (λ t. t.now) texts ≡ map bytes names → k < length names
-    → (get_or texts k none).now ≡ bytes (get_or names k "")
-text_at names texts k none e h =
-    let l : length texts ≡ length names = sym (length-map texts (λ t. t.now)) ∙ (ap length e ∙ length-map names bytes) in
-    sym (get_or-map (λ t. t.now) texts k none list.[] (omega arith))
+-- what a table of texts holds, read at a place that it has
+abbrev pub texts : list.List (Bor (list.List ℕ)) → list.List (list.List ℕ)
+texts t = map (λ s. s.now) t
+
+pub texts_length : (names : list.List String) (table : list.List (Bor (list.List ℕ))) → texts table ≡ map bytes names → length table ≡ length names
+texts_length names table e = sym (length-map table (λ s. s.now)) ∙ (ap length e ∙ length-map names bytes)
+
+pub text_at : (names : list.List String) (table : list.List (Bor (list.List ℕ))) (k : ℕ) (none : Bor (list.List ℕ)) → texts table ≡ map bytes names
+    → k < length names → (get_or table k none).now ≡ bytes (get_or names k "")
+text_at names table k none e h =
+    sym (get_or-map (λ s. s.now) table k none list.[] (omega (arith, texts_length names table e)))
     ∙ (ap (λ (t : list.List (list.List ℕ)). get_or t k list.[]) e ∙ get_or-map bytes names k "" list.[] h)
+
+-- and a table of such tables
+pub row_at : (rows : list.List (list.List String)) (table : list.List (Bor (list.List (Bor (list.List ℕ))))) (k : ℕ) (none : Bor (list.List (Bor (list.List ℕ))))
+    → map (λ r. texts r.now) table ≡ map (map bytes) rows → k < length rows → texts (get_or table k none).now ≡ map bytes (get_or rows k list.[])
+row_at rows table k none e h =
+    let l : length table ≡ length rows = sym (length-map table (λ r. texts r.now)) ∙ (ap length e ∙ length-map rows (map bytes)) in
+    sym (get_or-map (λ r. texts r.now) table k none list.[] (omega arith))
+    ∙ (ap (λ (t : list.List (list.List (list.List ℕ))). get_or t k list.[]) e ∙ get_or-map (map bytes) rows k list.[] list.[] h)
 
 -- how long the texts of a table are at most
 unfoldable pub longest : list.List String → ℕ

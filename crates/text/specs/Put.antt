@@ -27,7 +27,7 @@ pub record Put (text : List ℕ) (before after : Writer) : Type 0 where
 pub put_nothing : (w : Writer) → length w.buffer.now < 2 ^ 64 → Put [] w w
 put_nothing w r = record { same = refl; room = r; lent = refl; place = omega arith }
 
-sets_both : (s t b : List ℕ) (at : ℕ) → sets b at (s ++ t) ≡ sets (sets b at s) (at + length s) t
+pub sets_both : (s t b : List ℕ) (at : ℕ) → sets b at (s ++ t) ≡ sets (sets b at s) (at + length s) t
 sets_both [] t b at =
     let e : at ≡ at + 0 = omega arith in
     ap (λ (i : ℕ). sets b i t) e
