@@ -7,10 +7,23 @@ use Rattle.machine.specs.declared.Blame.{Blame}
 use Rattle.machine.specs.declared.Status.{Status}
 use Rattle.machine.specs.declared.Status.TheVariants.{Aok as aok}
 use Rattle.machine.specs.Types.{no_window}
-use Rattle.machine.specs.Memory.{Memory, through}
+use Rattle.machine.specs.Memory.{Memory, through, written}
 use Rattle.machine.specs.Stages.{new_codes, new_registers, next_address}
 use Rattle.machine.specs.Plain.{plain_of, steps}
 use Rattle.machine.specs.Runs.{laid}
+
+unfoldable pub with_register : Machine → ℕ → ℕ → Machine
+with_register m q v =
+    record {
+      registers = written m.registers q v;
+      codes = m.codes;
+      address = m.address;
+      status = m.status;
+      last = m.last;
+      count = m.count;
+      blame = m.blame;
+      window = m.window;
+    }
 
 unfoldable pub after_performed : Machine → Decoded → Accessed → Machine
 after_performed m x w =

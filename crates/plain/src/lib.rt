@@ -11,7 +11,7 @@ ghost use Rattle.machine.specs.Stages.{decode};
 ghost use Rattle.machine.specs.Plain.{plain_of, step as step_of};
 ghost use Rattle.machine.specs.Runs.{plain_started, plain_limit, plain_refusal, plain_answer, plain_run, plain_step};
 ghost use Rattle.answers.specs.Numbers.{number_of, number_in, record_in};
-ghost use Rattle.plain.specs.Records.{after_performed, after_stop, RunsTo};
+ghost use Rattle.plain.specs.Records.{with_register, after_performed, after_stop, RunsTo};
 
 use answers::{Refusal, Refused, unless_refused};
 use fetching::{blame_of, instruction_at};
@@ -49,6 +49,16 @@ pub fn start(
     unless_refused(answers::start_refusal(window, size, address), fresh)
 }
 
+// The record with one register changed, as document 01 has it: 15 changes nothing.
+#[tactic(auto, unfolding(crate::specs::Records::with_register))]
+fn with_register(m: Machine, q: u8, v: u64) -> Machine
+    ensures { result ≡ with_register m q v }
+{
+    let mut next = m;
+    write(&mut next.registers, q, v);
+    next
+}
+
 #[tactic(auto, unfolding(machine::specs::Stages::decode))]
 fn decoded(m: Machine, i: Instruction) -> Decoded
     ensures { result ≡ decode i (value_of m.registers) }
@@ -61,23 +71,23 @@ fn decoded(m: Machine, i: Instruction) -> Decoded
 }
 
 // The record after an instruction with AOK: the result is written first, and then the loaded word.
-#[tactic(auto, unfolding(crate::specs::Records::after_performed, machine::specs::Stages::new_registers))]
+#[tactic(auto, unfolding(crate::specs::Records::after_performed, crate::specs::Records::with_register, machine::specs::Stages::new_registers))]
 fn after_performed(m: Machine, x: Decoded, w: Accessed) -> Machine
     requires { m.count < plain_limit }
     ensures { result ≡ after_performed m x w }
 {
     let i = w.instruction;
-    let mut registers = m.registers;
-    write(&mut registers, result_target(i, w.holds), w.result);
-    write(&mut registers, loaded_target(i), w.word);
+    let target = result_target(i, w.holds);
+    let loaded = loaded_target(i);
+    let one = with_register(m, target, w.result);
+    let both = with_register(one, loaded, w.word);
     Machine {
-        registers,
         codes: new_codes(x, m.codes),
         address: next_address(w),
         status: Status::Aok,
         last: m.address,
         count: m.count + 1,
-        ..m
+        ..both
     }
 }
 
