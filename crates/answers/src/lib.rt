@@ -4,7 +4,7 @@
 
 ghost use Rattle.std.specs.Prelude.{◌≡◌, cond, ◌≤◌, set};
 ghost use Rattle.machine.specs.Runs.{size_refused, budget_refused, start_refused, window_refused, start_refusal};
-ghost use Rattle.answers.specs.Numbers.{number_of, refusal_number};
+ghost use Rattle.answers.specs.Numbers.{refusal_number, number_of, number_in, record_in};
 
 use machine::{MEMORY_LIMIT, Window};
 
@@ -25,7 +25,6 @@ pub enum Refusal {
 impl From<Refusal> for u64 {
     ghost from_gives = { λ r n. n ≡ refusal_number r };
 
-    #[tactic(auto, unfolding(crate::specs::Numbers::refusal_number))]
     fn from(refusal: Refusal) -> u64 {
         match refusal {
             Refusal::MemorySize => 1,
@@ -44,7 +43,18 @@ impl From<Refusal> for u64 {
 #[derive(Clone, Copy)]
 pub struct Refused<R> {
     pub why: Refusal,
-    pub record: R,
+    pub given: R,
+}
+
+// The record that was given, where nothing refused it.
+pub fn unless_refused<R: Copy>(refused: Result<(), Refusal>, given: R) -> Result<R, Refused<R>>
+    ensures number { number_in result ≡ number_of refused }
+    ensures record { record_in result ≡ given }
+{
+    match refused {
+        Ok(()) => Ok(given),
+        Err(why) => Err(Refused { why, given }),
+    }
 }
 
 // Refusal 1: no memory, or more than 65,536 bytes.
@@ -76,7 +86,7 @@ pub fn window_refused(window: Window, size: usize) -> bool
 }
 
 // The lowest refusal of a fresh start.
-#[tactic(auto, unfolding(machine::specs::Runs::start_refusal, machine::specs::Runs::lowest, crate::specs::Numbers::number_of, crate::specs::Numbers::refusal_number))]
+#[tactic(auto, unfolding(machine::specs::Runs::start_refusal, machine::specs::Runs::lowest))]
 pub fn start_refusal(window: Window, size: usize, address: u64) -> Result<(), Refusal>
     ensures { number_of result ≡ start_refusal window size address }
 {

@@ -10,6 +10,7 @@ use lookup::functions_of;
 use machine::{CMOV, Instruction, JUMP, NONE, OPERATION};
 
 // A register over 15, a code without functions, a move, jump or OPq function that the table has not.
+#[tactic(auto, unfolding(clocked::specs::PipeRuns::instruction_refused, machine::specs::Table::is))]
 fn instruction_refused(i: Instruction) -> bool
     ensures { result ≡ instruction_refused i }
 {
@@ -18,6 +19,7 @@ fn instruction_refused(i: Instruction) -> bool
     (NONE < i.ra) | ((NONE < i.rb) | ((functions == 0) | (tested & (functions <= i.function))))
 }
 
+#[tactic(auto, unfolding(clocked::specs::PipeRuns::refused_in_d))]
 fn refused_in_d(d: StageD) -> bool
     ensures { result ≡ refused_in_d d }
 {
@@ -27,6 +29,7 @@ fn refused_in_d(d: StageD) -> bool
     }
 }
 
+#[tactic(auto, unfolding(clocked::specs::PipeRuns::refused_in_e))]
 fn refused_in_e(e: StageE) -> bool
     ensures { result ≡ refused_in_e e }
 {
@@ -39,6 +42,7 @@ fn refused_in_e(e: StageE) -> bool
     }
 }
 
+#[tactic(auto, unfolding(clocked::specs::PipeRuns::refused_in_m))]
 fn refused_in_m(m: StageM) -> bool
     ensures { result ≡ refused_in_m m }
 {
@@ -51,6 +55,7 @@ fn refused_in_m(m: StageM) -> bool
     }
 }
 
+#[tactic(auto, unfolding(clocked::specs::PipeRuns::refused_in_w))]
 fn refused_in_w(w: StageW) -> bool
     ensures { result ≡ refused_in_w w }
 {
@@ -63,6 +68,7 @@ fn refused_in_w(w: StageW) -> bool
     }
 }
 
+#[tactic(auto, unfolding(clocked::specs::PipeRuns::refused_kept))]
 fn refused_kept(kept: Kept) -> bool
     ensures { result ≡ refused_kept kept }
 {
@@ -76,6 +82,7 @@ fn refused_kept(kept: Kept) -> bool
 }
 
 // Retired or a kind's count above cycles.
+#[tactic(auto, unfolding(clocked::specs::PipeRuns::counts_refused))]
 fn counts_refused(pipeline: Pipeline) -> bool
     ensures { result ≡ counts_refused pipeline }
 {
@@ -87,12 +94,14 @@ fn counts_refused(pipeline: Pipeline) -> bool
                 | ((cycles < kinds.returned) | (cycles < kinds.patched))))
 }
 
+#[tactic(auto, unfolding(clocked::specs::PipeRuns::settings_refused))]
 fn settings_refused(settings: Settings) -> bool
     ensures { result ≡ settings_refused settings }
 {
     LAST_RULE < settings.rule
 }
 
+#[tactic(auto, unfolding(clocked::specs::PipeRuns::record_refused))]
 fn record_refused(pipeline: Pipeline) -> bool
     ensures { result ≡ record_refused pipeline }
 {

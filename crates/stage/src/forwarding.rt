@@ -40,9 +40,10 @@ pub fn sources_d(d: StageD) -> Sources
 pub fn awaited(settings: Settings, d: StageD, a: u8) -> u8
     ensures { result ≡ awaited_by (core_of settings) d a }
 {
-    match d {
-        None => a,
-        Some(i) => { if takes_late(settings, i) { NONE } else { a } }
+    if d.is_some_and(|i| takes_late(settings, i)) {
+        NONE
+    } else {
+        a
     }
 }
 

@@ -67,13 +67,7 @@ pub fn mispredicted(settings: Settings, i: Instruction, holds: bool) -> bool
 pub fn wrong(settings: Settings, m: StageM) -> bool
     ensures { result ≡ wrong_of (core_of settings) m }
 {
-    match m {
-        None => false,
-        Some(x) => {
-            let i = x.instruction;
-            mispredicted(settings, i, x.holds)
-        }
-    }
+    m.is_some_and(|x| mispredicted(settings, x.instruction, x.holds))
 }
 
 #[tactic(auto, unfolding(clocked::specs::Pipeline::ret_in, machine::specs::Table::is))]
@@ -96,13 +90,7 @@ pub fn ret_on_the_way(d: StageD, e: StageE, m: StageM) -> bool
 pub fn bad_in_w(w: StageW) -> bool
     ensures { result ≡ bad_in_w w }
 {
-    match w {
-        None => false,
-        Some(x) => {
-            let status = x.status;
-            is_bad(status)
-        }
-    }
+    w.is_some_and(|x| is_bad(x.status))
 }
 
 // A store into the window: in W, or in M after its access.
@@ -110,8 +98,5 @@ pub fn bad_in_w(w: StageW) -> bool
 pub fn patched_in_w(w: StageW) -> bool
     ensures { result ≡ patched_in_w w }
 {
-    match w {
-        None => false,
-        Some(x) => x.patched,
-    }
+    w.is_some_and(|x| x.patched)
 }
