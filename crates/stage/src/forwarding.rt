@@ -26,13 +26,10 @@ pub struct Sources {
 pub fn sources_d(d: StageD) -> Sources
     ensures { result ≡ sources_d d }
 {
-    match d {
-        None => Sources { a: NONE, b: NONE },
-        Some(i) => Sources {
-            a: source_a(i),
-            b: source_b(i),
-        },
-    }
+    d.map_or(Sources { a: NONE, b: NONE }, |i| Sources {
+        a: source_a(i),
+        b: source_b(i),
+    })
 }
 
 // Of D's sources the one that may come late is not waited for.
@@ -129,10 +126,7 @@ pub fn result_w(w: StageW) -> u64
 pub fn word_w(w: StageW) -> u64
     ensures { result ≡ word_w w }
 {
-    match w {
-        None => 0,
-        Some(x) => x.word,
-    }
+    w.map_or(0, |x| x.word)
 }
 
 // "the first match of: result in E, word loaded in M, result in M", then the register file, which W has written by now.
@@ -176,16 +170,9 @@ pub fn decode_d(
 ) -> StageE
     ensures { result ≡ decoded_by s t executed u accessed registers.now d }
 {
-    match d {
-        None => None,
-        Some(i) => {
-            let a = source(t, executed, u, accessed, registers, s.a);
-            let b = source(t, executed, u, accessed, registers, s.b);
-            Some(Decoded {
-                instruction: i,
-                a,
-                b,
-            })
-        }
-    }
+    d.map(|instruction| Decoded {
+        instruction,
+        a: source(t, executed, u, accessed, registers, s.a),
+        b: source(t, executed, u, accessed, registers, s.b),
+    })
 }
