@@ -1,3 +1,4 @@
+pub mod Numbers
 pub mod Logs
 pub mod Refusals
 pub mod Joined

@@ -4,8 +4,48 @@
 
 ghost use Rattle.std.specs.Prelude.{◌≡◌, cond, ◌≤◌, set};
 ghost use Rattle.machine.specs.Runs.{size_refused, budget_refused, start_refused, window_refused, start_refusal};
+ghost use Rattle.answers.specs.Numbers.{refusal_number};
 
 use machine::{MEMORY_LIMIT, Window};
+
+// Why an entry refuses: the tables of documents 01 and 02, in the order of their numbers.
+#[derive(Clone, Copy, PartialEq, Eq)]
+pub enum Refusal {
+    MemorySize,
+    RegisterBlock,
+    Budget,
+    ShortBlock,
+    BadRecord,
+    StartOutside,
+    BadRange,
+    NoRoom,
+}
+
+// The refusals' numbers.
+impl From<Refusal> for u64 {
+    ghost from_gives = { λ r n. n ≡ refusal_number r };
+
+    #[tactic(auto, unfolding(crate::specs::Numbers::refusal_number))]
+    fn from(refusal: Refusal) -> u64 {
+        match refusal {
+            Refusal::MemorySize => 1,
+            Refusal::RegisterBlock => 2,
+            Refusal::Budget => 3,
+            Refusal::ShortBlock => 4,
+            Refusal::BadRecord => 5,
+            Refusal::StartOutside => 6,
+            Refusal::BadRange => 7,
+            Refusal::NoRoom => 8,
+        }
+    }
+}
+
+// A refusal that hands the record back, as it was given.
+#[derive(Clone, Copy)]
+pub struct Refused<R> {
+    pub why: Refusal,
+    pub record: R,
+}
 
 // Refusal 1: no memory, or more than 65,536 bytes.
 pub fn size_refused(size: usize) -> bool

@@ -1,0 +1,31 @@
+-- The numbers of the refusals, documents 01 and 02, and what an answer says by them.
+use Rattle.std.specs.Prelude.{ℕ, Result, Ok, Err}
+use Rattle.answers.specs.declared.Refusal.{Refusal}
+use Rattle.answers.specs.declared.Refused.{Refused}
+use Rattle.answers.specs.declared.Refusal.TheVariants.{MemorySize as memory_size, RegisterBlock as register_block, Budget as budget, ShortBlock as short_block}
+use Rattle.answers.specs.declared.Refusal.TheVariants.{BadRecord as bad_record, StartOutside as start_outside, BadRange as bad_range, NoRoom as no_room}
+
+-- 1 to 5 are document 01's table, 6 is of #109, 7 and 8 of #104
+unfoldable pub refusal_number : Refusal → ℕ
+refusal_number memory_size = 1
+refusal_number register_block = 2
+refusal_number budget = 3
+refusal_number short_block = 4
+refusal_number bad_record = 5
+refusal_number start_outside = 6
+refusal_number bad_range = 7
+refusal_number no_room = 8
+
+-- "Otherwise answer 0."
+unfoldable pub number_of : {A : Type 0} → Result A Refusal → ℕ
+number_of (Ok x) = 0
+number_of (Err why) = refusal_number why
+
+-- the same of an answer that gives back a record, refused or not
+unfoldable pub number_in : {R : Type 0} → Result R (Refused R) → ℕ
+number_in (Ok r) = 0
+number_in (Err e) = refusal_number e.why
+
+unfoldable pub record_in : {R : Type 0} → Result R (Refused R) → R
+record_in (Ok r) = r
+record_in (Err e) = e.record
