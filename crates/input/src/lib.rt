@@ -1,19 +1,12 @@
-// Standard input, read until it ends, so that a read that fails is not taken for the end.
+// A program from bytes to bytes: standard input, read until it ends, so that a read that fails is not taken for the end, and what is made of it.
 
 #![tactic(auto)]
 
-ghost use Rattle.std.specs.Prelude.{◌≤◌, length};
+ghost use Rattle.std.specs.Prelude.{◌≡◌, ◌≤◌, ◌⊎◌, IfOk, length};
 ghost use Rattle.std.specs.Io.{ReadsAtMost};
 
-use std::io;
-use std::io::{ErrorKind, Read};
-
-// How many bytes were read before the input ended or the buffer was full, and whether a read failed.
-#[derive(Clone, Copy)]
-pub struct Taken {
-    pub failed: bool,
-    pub length: usize,
-}
+use std::io::{ErrorKind, Read, Write};
+use std::{fmt, io};
 
 // One read, tried again where a signal interrupted it before a byte came. A proved loop has to end, so it counts down, from a number that
 // no run uses up.
@@ -22,43 +15,73 @@ fn read_some<R: Read>(reader: &mut R, buffer: &mut [u8]) -> io::Result<usize>
 {
     for _ in 0..u64::MAX {
         match reader.read(buffer) {
-            Ok(got) => return Ok(got),
-            Err(e) => {
-                if e.kind() != ErrorKind::Interrupted {
-                    return Err(e);
-                }
-            }
+            Err(e) if e.kind() == ErrorKind::Interrupted => {}
+            answer => return answer,
         }
     }
     Err(ErrorKind::Interrupted.into())
 }
 
-// Reads until the input ends, the buffer is full or a read fails.
-pub fn read_input<R: Read>(reader: &mut R, buffer: &mut [u8]) -> Taken
-    ensures { result.length ≤ length buffer.old }
+// Reads until the input ends, the buffer is full or a read fails: how many bytes were read.
+pub fn read_input<R: Read>(reader: &mut R, buffer: &mut [u8]) -> io::Result<usize>
+    ensures { IfOk result (λ n. n ≤ length buffer.old) }
 {
     let mut done: usize = 0;
     while done < buffer.len() {
-        match read_some(reader, &mut buffer[done..]) {
-            Ok(more) => {
-                if more == 0 {
-                    return Taken {
-                        failed: false,
-                        length: done,
-                    };
-                }
-                done += more;
-            }
-            Err(_) => {
-                return Taken {
-                    failed: true,
-                    length: 0,
-                };
-            }
+        let more = read_some(reader, &mut buffer[done..])?;
+        if more == 0 {
+            break;
+        }
+        done += more;
+    }
+    Ok(done)
+}
+
+// Why a program has not handed over its answer.
+#[derive(Clone, Copy)]
+enum Failure {
+    Unread,
+    Unwritten,
+}
+
+impl fmt::Display for Failure {
+    fn fmt<W: fmt::Write>(&self, f: &mut fmt::Formatter<W>) -> fmt::Result {
+        match self {
+            Failure::Unread => write!(f, "standard input cannot be read"),
+            Failure::Unwritten => write!(f, "standard output cannot be written"),
         }
     }
-    Taken {
-        failed: false,
-        length: done,
+}
+
+// Reads into the buffer, and hands what was read to `work`, which writes its answer: not where a read fails.
+fn answer<R: Read, W: Write, F: FnOnce(&mut [u8], &mut W) -> io::Result<()>>(
+    buffer: &mut [u8],
+    input: &mut R,
+    output: &mut W,
+    work: F,
+) -> Result<(), Failure>
+    requires { F.IsAlwaysCallable work }
+    ensures { (output.new ≡ output.old) ⊎ ((x : _) × (y : _) × (r : _) × (x' : _) × (y' : _)
+        × (length x.now ≤ length buffer.old) × (y.now ≡ output.old) × (y'.now ≡ output.new) × F.post work x y r x' y') }
+{
+    let n = read_input(input, buffer).map_err(|_| Failure::Unread)?;
+    work(&mut buffer[..n], output).map_err(|_| Failure::Unwritten)
+}
+
+// The whole program; a failure is told on the third stream.
+pub fn run<R: Read, W: Write, E: Write, F: FnOnce(&mut [u8], &mut W) -> io::Result<()>>(
+    name: &str,
+    buffer: &mut [u8],
+    input: &mut R,
+    output: &mut W,
+    errors: &mut E,
+    work: F,
+)
+    requires { F.IsAlwaysCallable work }
+    ensures { (output.new ≡ output.old) ⊎ ((x : _) × (y : _) × (r : _) × (x' : _) × (y' : _)
+        × (length x.now ≤ length buffer.old) × (y.now ≡ output.old) × (y'.now ≡ output.new) × F.post work x y r x' y') }
+{
+    if let Err(failure) = answer(buffer, input, output, work) {
+        drop(writeln!(errors, "{name}: {failure}"));
     }
 }

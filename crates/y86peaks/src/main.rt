@@ -2,26 +2,24 @@
 
 #![tactic(auto)]
 
-use std::io::Print;
+use std::io;
+use std::io::Write;
+
+// The day of any line and image.
+fn hand_over<W: Write>(bytes: &mut [u8], to: &mut W) -> io::Result<()> {
+    let mut out = [0u8; 144];
+    let n = dayreport::report_input(bytes, &mut out);
+    to.write_all(&out[..n])
+}
 
 // The longest first line, 63 bytes, and one byte more than the longest image are read, so that a longer one is seen to be too long.
 fn main(rt: HostRuntime) {
-    let mut bytes = [0u8; 4160];
-    let taken = input::read_input(&mut rt.stdin(), &mut bytes);
-    let n = taken.length;
-    if taken.failed {
-        drop(
-            rt.stderr()
-                .write_all(b"y86peaks: standard input cannot be read\n"),
-        );
-        return;
-    }
-    let mut out = [0u8; 144];
-    let m = dayreport::report_input(&mut bytes[..n], &mut out);
-    if rt.stdout().write_all(&out[..m]).is_err() {
-        drop(
-            rt.stderr()
-                .write_all(b"y86peaks: standard output cannot be written\n"),
-        );
-    }
+    input::run(
+        "y86peaks",
+        &mut [0u8; 4160],
+        &mut rt.stdin(),
+        &mut rt.stdout(),
+        &mut rt.stderr(),
+        hand_over,
+    );
 }

@@ -2,26 +2,24 @@
 
 #![tactic(auto)]
 
-use std::io::Print;
+use std::io;
+use std::io::Write;
+
+// Any image's report.
+fn hand_over<W: Write>(image: &mut [u8], to: &mut W) -> io::Result<()> {
+    let mut out = [0u8; 652];
+    let n = report::report_image(image, &mut out);
+    to.write_all(&out[..n])
+}
 
 // One byte more than the longest image is read, so that a longer one is seen to be too long.
 fn main(rt: HostRuntime) {
-    let mut image = [0u8; 4097];
-    let taken = input::read_input(&mut rt.stdin(), &mut image);
-    let n = taken.length;
-    if taken.failed {
-        drop(
-            rt.stderr()
-                .write_all(b"y86run: standard input cannot be read\n"),
-        );
-        return;
-    }
-    let mut out = [0u8; 652];
-    let m = report::report_image(&mut image[..n], &mut out);
-    if rt.stdout().write_all(&out[..m]).is_err() {
-        drop(
-            rt.stderr()
-                .write_all(b"y86run: standard output cannot be written\n"),
-        );
-    }
+    input::run(
+        "y86run",
+        &mut [0u8; 4097],
+        &mut rt.stdin(),
+        &mut rt.stdout(),
+        &mut rt.stderr(),
+        hand_over,
+    );
 }
