@@ -12,7 +12,7 @@ use Rattle.peaks.specs.Day.{judged}
 use Rattle.edge.specs.Edge.{Edge, replayed, replayed_set}
 use Rattle.replay_ends.specs.Ends.{Numbers}
 use Rattle.day_edge.specs.Days.{DayAt, day_answer}
-use Rattle.encoding.specs.Encode.{Fields}
+use Rattle.encoding.specs.declared.Fields.{Fields}
 use Rattle.writing_edge.specs.Writings.{Written, encoded, listing_written}
 use Rattle.dayreport.specs.Program.{answered_input}
 use Rattle.together.specs.Both.{BothAnswer, both_runs}

@@ -13,6 +13,7 @@ ghost use Rattle.edge.specs.Edge.{edge, replayed, replayed_set};
 ghost use Rattle.replay_ends.specs.Ends.{numbers};
 
 use crate::replaying::replay;
+use encoding::Fields;
 use replay_ends::settings::{numbers_refused, settings_of};
 
 // The result blocks: five words, and all eleven.
@@ -115,7 +116,14 @@ pub fn y86_encode(
     ensures { written result bytes.new length.new
         ≡ encoded bytes.old length.old (fields code function ra rb constant) }
 {
-    writing_edge::encode(bytes, length, code, function, ra, rb, constant)
+    let said = Fields {
+        code,
+        function,
+        ra,
+        rb,
+        constant,
+    };
+    writing_edge::encode(bytes, length, said)
 }
 
 // The listing of memory from a start up to an end, one instruction a line (#104).
