@@ -16,7 +16,7 @@ use fetching::instruction_at;
 use machine::{Codes, Instruction, REGISTERS, Window};
 use stage::addresses::fetch_address;
 use stage::controls::{next_codes, next_d, next_e, next_f, next_m, next_targets};
-use stage::forwarding::{Sources, Targets, awaited, decode_d, sources_d, targets_m};
+use stage::forwarding::{Sources, Targets, awaited, decode_d, sources_d, targets_in};
 use stage::signals::{bad_in_w, meets_either, patched_in_w, ret_on_the_way, wrong};
 use stage::working::{after_e, after_m, registers_after};
 
@@ -131,7 +131,7 @@ pub fn advance(
     let fetched = fetch_now(window, ahead.wrong, m, w, flow.predicted, memory);
     let accessed = after_m(window, m, memory);
     let executed = after_e(settings, accessed, e, codes);
-    let targets = targets_m(executed);
+    let targets = targets_in(executed);
     let sources = sources_d(d);
     let decoded = write_and_decode(d, sources, targets, executed, accessed, w, ahead, registers);
     let s = signals_now(settings, sources, targets, d, e, m, executed, accessed);
