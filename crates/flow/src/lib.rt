@@ -15,7 +15,7 @@ use clocked::{Settings, StageD, StageE, StageM, StageW};
 use fetching::instruction_at;
 use machine::{Codes, Instruction, REGISTERS, Window};
 use stage::addresses::fetch_address;
-use stage::controls::{next_codes, next_d, next_e, next_f, next_m, next_targets};
+use stage::controls::{next_codes, next_d, next_f, next_stage, next_targets};
 use stage::forwarding::{Sources, Targets, awaited, decode_d, sources_d, targets_in};
 use stage::signals::{bad_in_w, meets_either, patched_in_w, ret_on_the_way, wrong};
 use stage::working::{after_e, after_m, registers_after};
@@ -145,8 +145,8 @@ pub fn advance(
     Flow {
         predicted: next_f(settings, s.cancels, m, held, flow.predicted, fetched),
         d: next_d(s.cancels | s.mispredicts, s.waits, s.returns, d, fetched),
-        e: next_e(s.cancels | (s.mispredicts | s.waits), decoded),
-        m: next_m(emptied, executed),
+        e: next_stage(s.cancels | (s.mispredicts | s.waits), decoded),
+        m: next_stage(emptied, executed),
         w: accessed,
         codes: next_codes(emptied, e, codes),
         ahead: carried,

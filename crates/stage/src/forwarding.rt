@@ -1,7 +1,7 @@
 // Sources and targets, and decode with what is forwarded to it.
 ghost use Rattle.std.specs.Prelude.{◌≡◌};
 ghost use Rattle.clocked.specs.Prediction.{core_of, awaited_a};
-ghost use Rattle.stage.specs.Forwarding.{no_targets, targets_in, value_in, sources_d, word_w, source_by, decoded_by, awaited_by};
+ghost use Rattle.stage.specs.Forwarding.{targets_in, value_in, sources_d, word_w, source_by, decoded_by, awaited_by};
 
 use crate::signals::takes_late;
 use clocked::{Finished, Settings, StageD, StageE, StageM, StageW};
@@ -56,21 +56,18 @@ pub fn awaited_a(settings: Settings, i: Instruction) -> u8
     }
 }
 
-pub fn no_targets() -> Targets
-    ensures { result ≡ no_targets }
-{
-    Targets {
-        result: NONE,
-        loaded: NONE,
-    }
-}
+// A bubble's: 15 is document 01's own word for none.
+pub const NO_TARGETS: Targets = Targets {
+    result: NONE,
+    loaded: NONE,
+};
 
 // Of what stands in a stage, if it has been executed.
 #[tactic(auto, unfolding(crate::specs::Forwarding::targets_in, crate::specs::Forwarding::targets_of))]
 pub fn targets_in<T: Finished + Copy>(stage: Option<T>) -> Targets
     ensures { result ≡ targets_in T.instruction_of T.holds_of stage }
 {
-    stage.map_or(no_targets(), |x| Targets {
+    stage.map_or(NO_TARGETS, |x| Targets {
         result: result_target(x.instruction(), x.holds()),
         loaded: loaded_target(x.instruction()),
     })

@@ -18,7 +18,7 @@ unfolding targets_m
 returns c = (
   flow_is _ _ _ _ c.requires.1 c.after_e-executed.ensures c.after_m-accessed.ensures.0 c.fetch_now-fetched.ensures
       c.targets_in-targets.ensures c.sources_d-sources.ensures c.write_and_decode-decoded.ensures.0 c.signals_now-s.ensures
-      c.next_f.ensures c.next_d.ensures c.next_e.ensures c.next_m.ensures c.next_codes.ensures
+      c.next_f.ensures c.next_d.ensures c.next_stage.ensures c.next_stage-2.ensures c.next_codes.ensures
       c.next_targets.ensures,
   c.write_and_decode-decoded.ensures.1,
   c.after_m-accessed.ensures.1,
