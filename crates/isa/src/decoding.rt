@@ -9,15 +9,11 @@ use lookup::kinds::Which;
 use lookup::{a_from, b_from, loaded_of, target_of};
 use machine::{CMOV, Instruction, NONE, REGISTERS, RSP, Status};
 
+#[tactic(auto, unfolding(machine::specs::Types::is_bad))]
 pub fn is_bad(status: Status) -> bool
     ensures { result ≡ is_bad status }
 {
-    match status {
-        Status::Aok => false,
-        Status::Hlt => true,
-        Status::Adr => true,
-        Status::Ins => true,
-    }
+    status != Status::Aok
 }
 
 // The register that a table's entry names.

@@ -12,11 +12,11 @@ use flow::{Ahead, Flow, advance};
 use isa::decoding::is_bad;
 use machine::{Blame, Fault, REGISTERS, Status};
 use retiring::{Tally, counted, retires, status_after};
-use stage::forwarding::{targets_m, targets_w};
+use stage::forwarding::{targets_in};
 use stage::signals::{bad_in_w, wrong};
 
 // What a clock moves.
-#[tactic(auto, unfolding(crate::specs::Parts::flow_of, flow::specs::Moving::ahead_of))]
+#[tactic(auto, unfolding(crate::specs::Parts::flow_of, stage::specs::Forwarding::targets_m, stage::specs::Forwarding::targets_w, flow::specs::Moving::ahead_of))]
 fn flow_of(p: Pipeline) -> Flow
     ensures { result ≡ flow_of p }
 {
@@ -27,8 +27,8 @@ fn flow_of(p: Pipeline) -> Flow
     let w = p.w;
     let codes = p.codes;
     let ahead = Ahead {
-        m: targets_m(m),
-        w: targets_w(w),
+        m: targets_in(m),
+        w: targets_in(w),
         wrong: wrong(settings, m),
     };
     Flow {

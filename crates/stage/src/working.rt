@@ -5,7 +5,7 @@ ghost use Rattle.clocked.specs.Prediction.{core_of};
 ghost use Rattle.clocked.specs.Pipeline.{after_e, after_m, handed_a, handed, codes_after, memory_after};
 ghost use Rattle.stage.specs.Forwarding.{written_by};
 
-use crate::forwarding::{Targets, result_w, word_w};
+use crate::forwarding::{Targets, result_in, word_w};
 use crate::signals::{meets, takes_late};
 use clocked::{Settings, StageE, StageM, StageW};
 use isa::accessing::access_and_update;
@@ -60,10 +60,10 @@ pub fn codes_after(e: StageE, codes: Codes) -> Codes
 }
 
 // W's write, to the targets that it carries: the result, and then the loaded word.
-#[tactic(auto, unfolding(crate::specs::Forwarding::written_by))]
+#[tactic(auto, unfolding(crate::specs::Forwarding::written_by, crate::specs::Forwarding::result_w))]
 pub fn registers_after(targets: Targets, w: StageW, registers: &mut [u64; REGISTERS])
     ensures { registers.new ≡ written_by targets w registers.old }
 {
-    write(registers, targets.result, result_w(w));
+    write(registers, targets.result, result_in(w));
     write(registers, targets.loaded, word_w(w));
 }
