@@ -58,7 +58,7 @@ fn tell(answer: Result<(), Unread>, fault: &mut [u8]) -> u64
     }
 }
 
-// Memory becomes the image of the listing.
+// Memory becomes the image of the listing. The answer is a number, as the C interface has it.
 #[tactic(auto, using(crate::proofs::Faults::not_0, crate::proofs::Faults::block_of_16), unfolding(crate::specs::Listings::number_of, crate::specs::Listings::listing_read, crate::specs::Listings::told_of))]
 pub fn read_listing(text: &[u8], memory: &mut [u8], fault: &mut [u8]) -> u64
     ensures { listing_edge result memory.new fault.new ≡ listing_read text.now memory.old fault.old }
