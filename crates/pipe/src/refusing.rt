@@ -1,11 +1,11 @@
 // The refusals, of which the lowest number wins.
 ghost use Rattle.std.specs.Prelude.{◌≡◌};
-ghost use Rattle.clocked.specs.PipeRuns.{instruction_refused, refused_in_d, refused_in_e, refused_in_m, refused_in_w, refused_kept};
+ghost use Rattle.clocked.specs.PipeRuns.{instruction_refused, refused_in};
 ghost use Rattle.clocked.specs.PipeRuns.{counts_refused, settings_refused, record_refused, pipe_start_refusal};
 ghost use Rattle.pipe.specs.Parts.{refusal_by};
 
 use answers::{budget_refused, size_refused, start_refused, window_refused};
-use clocked::{Kept, LAST_RULE, PIPE_LIMIT, Pipeline, Settings, StageD, StageE, StageM, StageW};
+use clocked::{Carries, LAST_RULE, PIPE_LIMIT, Pipeline, Settings};
 use lookup::functions_of;
 use machine::{CMOV, Instruction, JUMP, NONE, OPERATION};
 
@@ -19,66 +19,12 @@ fn instruction_refused(i: Instruction) -> bool
     (NONE < i.ra) | ((NONE < i.rb) | ((functions == 0) | (tested & (functions <= i.function))))
 }
 
-#[tactic(auto, unfolding(clocked::specs::PipeRuns::refused_in_d))]
-fn refused_in_d(d: StageD) -> bool
-    ensures { result ≡ refused_in_d d }
+// Of what stands in a stage, and of what is kept.
+#[tactic(auto, unfolding(clocked::specs::PipeRuns::refused_in))]
+fn refused_in<T: Carries>(stage: Option<T>) -> bool
+    ensures { result ≡ refused_in T.instruction_of stage }
 {
-    match d {
-        None => false,
-        Some(i) => instruction_refused(i),
-    }
-}
-
-#[tactic(auto, unfolding(clocked::specs::PipeRuns::refused_in_e))]
-fn refused_in_e(e: StageE) -> bool
-    ensures { result ≡ refused_in_e e }
-{
-    match e {
-        None => false,
-        Some(x) => {
-            let i = x.instruction;
-            instruction_refused(i)
-        }
-    }
-}
-
-#[tactic(auto, unfolding(clocked::specs::PipeRuns::refused_in_m))]
-fn refused_in_m(m: StageM) -> bool
-    ensures { result ≡ refused_in_m m }
-{
-    match m {
-        None => false,
-        Some(x) => {
-            let i = x.instruction;
-            instruction_refused(i)
-        }
-    }
-}
-
-#[tactic(auto, unfolding(clocked::specs::PipeRuns::refused_in_w))]
-fn refused_in_w(w: StageW) -> bool
-    ensures { result ≡ refused_in_w w }
-{
-    match w {
-        None => false,
-        Some(x) => {
-            let i = x.instruction;
-            instruction_refused(i)
-        }
-    }
-}
-
-#[tactic(auto, unfolding(clocked::specs::PipeRuns::refused_kept))]
-fn refused_kept(kept: Kept) -> bool
-    ensures { result ≡ refused_kept kept }
-{
-    match kept {
-        None => false,
-        Some(k) => {
-            let i = k.instruction;
-            instruction_refused(i)
-        }
-    }
+    stage.is_some_and(|x| instruction_refused(x.instruction()))
 }
 
 // Retired or a kind's count above cycles.
@@ -101,21 +47,16 @@ fn settings_refused(settings: Settings) -> bool
     LAST_RULE < settings.rule
 }
 
-#[tactic(auto, unfolding(clocked::specs::PipeRuns::record_refused))]
+#[tactic(auto, unfolding(clocked::specs::PipeRuns::record_refused, clocked::specs::PipeRuns::refused_in_d, clocked::specs::PipeRuns::refused_in_e, clocked::specs::PipeRuns::refused_in_m, clocked::specs::PipeRuns::refused_in_w, clocked::specs::PipeRuns::refused_kept))]
 fn record_refused(pipeline: Pipeline) -> bool
     ensures { result ≡ record_refused pipeline }
 {
-    let settings = pipeline.settings;
-    let d = pipeline.d;
-    let e = pipeline.e;
-    let m = pipeline.m;
-    let w = pipeline.w;
-    let kept = pipeline.kept;
-    settings_refused(settings)
-        | (refused_in_d(d)
-            | (refused_in_e(e)
-                | (refused_in_m(m)
-                    | (refused_in_w(w) | (refused_kept(kept) | counts_refused(pipeline))))))
+    settings_refused(pipeline.settings)
+        | (refused_in(pipeline.d)
+            | (refused_in(pipeline.e)
+                | (refused_in(pipeline.m)
+                    | (refused_in(pipeline.w)
+                        | (refused_in(pipeline.kept) | counts_refused(pipeline))))))
 }
 
 // The lowest refusal of a fresh start, or 0.
