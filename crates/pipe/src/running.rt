@@ -100,17 +100,11 @@ fn put_together(
 fn blame_in(settings: Settings, w: StageW, memory: &[u8]) -> Blame
     ensures { result ≡ blame_in w (through settings.window (lent memory.now)) }
 {
-    let window = settings.window;
-    match w {
-        None => Blame {
-            fault: None,
-            address: 0,
-        },
-        Some(x) => {
-            let i = x.instruction;
-            blame_of(window, memory, i)
-        }
-    }
+    let none = Blame {
+        fault: None,
+        address: 0,
+    };
+    w.map_or(none, |x| blame_of(settings.window, memory, x.instruction))
 }
 
 // A retirement goes to its place in a log; a log that is not lent has none.
