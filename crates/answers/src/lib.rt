@@ -57,6 +57,16 @@ pub fn unless_refused<R: Copy>(refused: Result<(), Refusal>, given: R) -> Result
     }
 }
 
+// The record of an answer, refused or not.
+pub fn record_of<R: Copy>(answer: Result<R, Refused<R>>) -> R
+    ensures { result ≡ record_in answer }
+{
+    match answer {
+        Ok(record) => record,
+        Err(refused) => refused.given,
+    }
+}
+
 // Refusal 1: no memory, or more than 65,536 bytes.
 #[tactic(auto, unfolding(machine::specs::Runs::size_refused))]
 pub fn size_refused(size: usize) -> bool
