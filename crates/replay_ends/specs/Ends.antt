@@ -5,18 +5,12 @@ use Rattle.machine.specs.Types.{no_window, within}
 use Rattle.clocked.specs.declared.Settings.{Settings}
 use Rattle.clocked.specs.declared.Pipeline.{Pipeline}
 use Rattle.machine.specs.Types.{status_number, fault_number, codes_number}
+pub use Rattle.replay_ends.specs.declared.settings.Numbers.{Numbers}
 use Rattle.machine.specs.Runs.{size_refused, budget_refused, window_refused, start_refused, lowest}
 use Rattle.clocked.specs.PipeRuns.{settings_refused, pipe_limit}
 
 -- THE SETTINGS by five numbers: the rule (02, #105); 1 for late store data (#106); 1 for a code window, its first address and its end (#113),
 -- which are looked at only then
-pub record Numbers : Type 0 where
-  pub rule : ℕ
-  pub late : ℕ
-  pub windowed : ℕ
-  pub first : ℕ
-  pub end : ℕ
-
 abbrev pub numbers : (rule late windowed first end : ℕ) → Numbers
 numbers r l w f e = record { rule = r; late = l; windowed = w; first = f; end = e }
 

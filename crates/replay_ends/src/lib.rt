@@ -1,102 +1,98 @@
-// Both ends of a replay: what it is refused for, and what it leaves in the lent blocks.
+// Both ends of a replay: what it is refused for, and the words that it leaves.
 
 #![tactic(auto)]
 
 pub mod settings;
 
-ghost use Rattle.std.specs.Prelude.{◌≡◌, length};
-ghost use Rattle.block.specs.Block.{with_words};
+ghost use Rattle.std.specs.Prelude.{◌≡◌, IfOk, Some, is_none};
+ghost use Rattle.answers.specs.Numbers.{number_of};
 ghost use Rattle.replay_ends.specs.Ends.{replay_refusal, result_words, full_words};
 
-use block::write_words;
+use answers::Refusal;
 use clocked::{PIPE_LIMIT, Pipeline};
 
 // The block of fifteen registers, and the greatest number that codes have.
-const REGISTER_BYTES: usize = 120;
+pub const REGISTER_BYTES: usize = 120;
 
-const MOST_CODES: u64 = 7;
+pub const MOST_CODES: u64 = 7;
 
-// The lowest refusal that applies, or 0, where the result block has so many bytes, and chosen says that the settings are out of their range.
-pub fn refusal(
+// What a replay is asked for by three numbers: from which address, with which codes, and for how many cycles.
+#[derive(Clone, Copy)]
+pub struct Request {
+    pub start: u64,
+    pub codes: u64,
+    pub budget: u64,
+}
+
+// The lowest refusal that applies, where the result block has so many bytes; else what is chosen, which is nothing where it is out of its range.
+#[tactic(auto, unfolding(crate::specs::Ends::replay_refusal, machine::specs::Runs::lowest, answers::specs::Numbers::number_of, answers::specs::Numbers::refusal_number))]
+pub fn let_in<S: Drop>(
     block: usize,
-    chosen: bool,
+    chosen: Option<S>,
     memory: usize,
     registers: usize,
     res: usize,
-    start: u64,
-    codes: u64,
-    budget: u64,
-) -> u64
-    ensures { result ≡ replay_refusal block chosen memory registers res start codes budget }
+    asked: Request,
+) -> Result<S, Refusal>
+    ensures number { number_of result
+        ≡ replay_refusal block (is_none chosen) memory registers res asked.start asked.codes asked.budget }
+    ensures chosen { IfOk result (λ s. chosen ≡ Some s) }
 {
     if answers::size_refused(memory) {
-        return 1;
+        return Err(Refusal::MemorySize);
     }
     if registers != REGISTER_BYTES {
-        return 2;
+        return Err(Refusal::RegisterBlock);
     }
-    if answers::budget_refused(PIPE_LIMIT, 0, budget) {
-        return 3;
+    if answers::budget_refused(PIPE_LIMIT, 0, asked.budget) {
+        return Err(Refusal::Budget);
     }
     if res != block {
-        return 4;
+        return Err(Refusal::ShortBlock);
     }
-    if (MOST_CODES < codes) | chosen {
-        return 5;
+    if MOST_CODES < asked.codes {
+        return Err(Refusal::BadRecord);
     }
-    if answers::start_refused(memory, start) {
-        return 6;
+    let settled = chosen.ok_or(Refusal::BadRecord)?;
+    if answers::start_refused(memory, asked.start) {
+        return Err(Refusal::StartOutside);
     }
-    0
+    Ok(settled)
 }
 
 // The five result words.
-pub fn write_result(res: &mut [u8], end: Pipeline)
-    requires { length res.old ≡ 40 }
-    ensures { res.new ≡ with_words (result_words end) res.old 0 }
+#[tactic(auto, unfolding(crate::specs::Ends::result_words))]
+pub fn result_words(end: Pipeline) -> [u64; 5]
+    ensures { result ≡ result_words end }
 {
-    let status = end.status;
-    let codes = end.codes;
-    let words = [
-        u64::from(status),
+    [
+        u64::from(end.status),
         end.last,
-        u64::from(codes),
+        u64::from(end.codes),
         end.retired,
         end.cycles,
-    ];
-    write_words(res, &words);
+    ]
 }
 
 // All eleven: with them the cycles by kind, and what a bad fetch is blamed on.
-pub fn write_full(res: &mut [u8], last: Pipeline)
-    requires { length res.old ≡ 88 }
-    ensures { res.new ≡ with_words (full_words last) res.old 0 }
+#[tactic(auto, unfolding(crate::specs::Ends::full_words, crate::specs::Ends::result_words, machine::specs::Types::fault_number))]
+pub fn full_words(end: Pipeline) -> [u64; 11]
+    ensures { result ≡ full_words end }
 {
-    let status = last.status;
-    let codes = last.codes;
-    let kinds = last.kinds;
-    let blame = last.blame;
-    let fault = blame.fault;
-    let words = [
-        u64::from(status),
-        last.last,
-        u64::from(codes),
-        last.retired,
-        last.cycles,
+    let [status, last, codes, retired, cycles] = result_words(end);
+    let kinds = end.kinds;
+    let blame = end.blame;
+    [
+        status,
+        last,
+        codes,
+        retired,
+        cycles,
         kinds.loaduse,
         kinds.mispredict,
         kinds.returned,
         kinds.patched,
-        fault.map_or(0, u64::from),
+        blame.fault.map_or(0, u64::from),
         blame.address,
-    ];
-    write_words(res, &words);
-}
-
-pub fn write_registers(block: &mut [u8], end: Pipeline)
-    requires { length block.old ≡ 120 }
-    ensures { block.new ≡ with_words end.registers block.old 0 }
-{
-    let registers = end.registers;
-    write_words(block, &registers);
+    ]
 }

@@ -1,48 +1,48 @@
 // The settings of a replay, by five numbers.
-ghost use Rattle.std.specs.Prelude.{◌≡◌, cond, ◌<◌, eqb};
-ghost use Rattle.machine.specs.Types.{no_window, within};
-ghost use Rattle.replay_ends.specs.Ends.{numbers, settings_of, numbers_refused};
+ghost use Rattle.std.specs.Prelude.{◌≡◌, cond, None, Some};
+ghost use Rattle.replay_ends.specs.Ends.{window_of, settings_of, numbers_refused};
 
 use answers::window_refused;
 use clocked::{LAST_RULE, Settings};
 use machine::Window;
 
+// The rule, 1 for late store data, 1 for a code window, its first address and its end, which are looked at only then.
+#[derive(Clone, Copy)]
+pub struct Numbers {
+    pub rule: u64,
+    pub late: u64,
+    pub windowed: u64,
+    pub first: u64,
+    pub end: u64,
+}
+
 // A late or a windowed of 1 says yes.
 const YES: u64 = 1;
 
-// First and end are looked at only where there is a window.
-fn window_of(windowed: u64, first: u64, end: u64) -> Window
-    ensures { result ≡ cond (eqb windowed 1) (within (first, end)) no_window }
-{
-    if windowed == YES {
-        return Some((first, end));
+impl Numbers {
+    #[tactic(auto, unfolding(crate::specs::Ends::window_of))]
+    fn window(self) -> Window
+        ensures { result ≡ window_of self }
+    {
+        (self.windowed == YES).then_some((self.first, self.end))
     }
-    None
-}
 
-pub fn settings_of(rule: u64, late: u64, windowed: u64, first: u64, end: u64) -> Settings
-    requires { rule < 256 }
-    ensures { result ≡ settings_of (numbers rule late windowed first end) }
-{
-    let window = window_of(windowed, first, end);
-    Settings {
-        rule: rule as u8,
-        late: late == YES,
-        window,
+    // What they choose in memory of that size; nothing where one of them is out of its range.
+    #[tactic(auto, unfolding(crate::specs::Ends::numbers_refused, crate::specs::Ends::settings_of, crate::specs::Ends::window_of, clocked::specs::PipeRuns::settings_refused))]
+    pub fn settings(self, size: usize) -> Option<Settings>
+        ensures { result ≡ cond (numbers_refused self size) None (Some (settings_of self)) }
+    {
+        let window = self.window();
+        let refused = (YES < self.late)
+            | ((YES < self.windowed)
+                | ((u64::from(LAST_RULE) < self.rule) | window_refused(window, size)));
+        if refused {
+            return None;
+        }
+        Some(Settings {
+            rule: self.rule as u8,
+            late: self.late == YES,
+            window,
+        })
     }
-}
-
-// Refusal 5: a number that is out of its range.
-pub fn numbers_refused(
-    rule: u64,
-    late: u64,
-    windowed: u64,
-    first: u64,
-    end: u64,
-    size: usize,
-) -> bool
-    ensures { result ≡ numbers_refused (numbers rule late windowed first end) size }
-{
-    let window = window_of(windowed, first, end);
-    (YES < late) | ((YES < windowed) | (((LAST_RULE as u64) < rule) | window_refused(window, size)))
 }
