@@ -1,20 +1,18 @@
 -- The refusals at the edge: none has the number 0, and a fault let in has 16 bytes. Assumes nothing.
-use mathlib.Core.Path.{◌≡◌, refl, sym}
+use mathlib.Core.Path.{◌≡◌, sym}
 use mathlib.Core.Bool.{false, not}
 use Prim.Native.Nat.{ℕ}
 use lib.Dec.{eqb}
-use borrow.Author.Tests.{eqb-true, not-false}
+use borrow.Author.Tests.{eqb-true, ne_eqb, not-false}
 use Rattle.machine.specs.Runs.{size_refused, lowest}
 use Rattle.answers.specs.Refusals.{failed}
-use Rattle.listing_edge.specs.declared.Refusal.{Refusal}
-use Rattle.listing_edge.specs.declared.Refusal.TheVariants.{MemorySize as memory_size, ShortBlock as short_block}
-use Rattle.listing_edge.specs.Listings.{refusal_number, listing_refusal}
+use Rattle.answers.specs.declared.Refusal.{Refusal}
+use Rattle.answers.specs.Numbers.{refusal_number, numbered}
+use Rattle.listing_edge.specs.Listings.{listing_refusal}
 
 -- REFUSALS
 pub not_0 : (r : Refusal) → eqb (refusal_number r) 0 ≡ false
-unfolding refusal_number
-not_0 memory_size = refl
-not_0 short_block = refl
+not_0 r = ne_eqb (refusal_number r) 0 (numbered r)
 
 pub block_of_16 : (memory fault : ℕ) → 0 ≡ listing_refusal memory fault → fault ≡ 16
 unfolding listing_refusal lowest

@@ -1,22 +1,11 @@
 -- Listings at the edge (#103): the text is only read; memory becomes the image, or the block named fault takes the first faulty line.
-use Rattle.std.specs.Prelude.{ℕ, cond, not, List, [], ◌∷◌, eqb, length, Result}
+use Rattle.std.specs.Prelude.{ℕ, cond, not, List, [], ◌∷◌, eqb, length}
 use Rattle.machine.specs.Runs.{size_refused, lowest}
 use Rattle.text.specs.Parts.{Text}
 use Rattle.std.specs.Prelude.{Ok as right, Err as wrong}
 use Rattle.listing.specs.declared.Unread.TheVariants.{Faulty as faulted}
 use Rattle.listing.specs.Reading.{kind_number, Answer, refused, Answered, listed}
 use Rattle.block.specs.Block.{with_words}
-use Rattle.listing_edge.specs.declared.Refusal.{Refusal}
-use Rattle.listing_edge.specs.declared.Refusal.TheVariants.{MemorySize as memory_size, ShortBlock as short_block}
-
--- document 01's numbers of the refusals, and 0 where there is none
-unfoldable pub refusal_number : Refusal → ℕ
-refusal_number memory_size = 1
-refusal_number short_block = 4
-
-unfoldable pub number_of : Result Unit Refusal → ℕ
-number_of (right u) = 0
-number_of (wrong r) = refusal_number r
 
 -- refusal 1 by the size of memory; 4: "fault not 16 bytes"
 unfoldable pub listing_refusal : (memory fault : ℕ) → ℕ

@@ -3,33 +3,15 @@
 #![tactic(auto)]
 
 ghost use Rattle.std.specs.Prelude.{◌≡◌, length};
-ghost use Rattle.listing_edge.specs.Listings.{refusal_number, number_of, listing_refusal, told, listing_edge, listing_read};
+ghost use Rattle.answers.specs.Numbers.{number_of};
+ghost use Rattle.listing_edge.specs.Listings.{listing_refusal, told, listing_edge, listing_read};
 
+use answers::Refusal;
 use block::write_words;
 use listing::Unread;
 
-// Why nothing is read: document 01's refusals of memory's size and of a short block.
-#[derive(Clone, Copy, PartialEq, Eq)]
-enum Refusal {
-    MemorySize,
-    ShortBlock,
-}
-
-// Document 01's numbers of these refusals.
-impl From<Refusal> for u64 {
-    ghost from_gives = { λ refusal n. n ≡ refusal_number refusal };
-
-    #[tactic(auto, unfolding(crate::specs::Listings::refusal_number))]
-    fn from(refusal: Refusal) -> u64 {
-        match refusal {
-            Refusal::MemorySize => 1,
-            Refusal::ShortBlock => 4,
-        }
-    }
-}
-
 // The text may be read; or the lowest refusal that applies.
-#[tactic(auto, unfolding(crate::specs::Listings::refusal_number, crate::specs::Listings::number_of, crate::specs::Listings::listing_refusal, machine::specs::Runs::lowest))]
+#[tactic(auto, unfolding(crate::specs::Listings::listing_refusal, machine::specs::Runs::lowest))]
 fn admit(memory: usize, fault: usize) -> Result<(), Refusal>
     ensures { number_of result ≡ listing_refusal memory fault }
 {
@@ -59,7 +41,7 @@ fn tell(answer: Result<(), Unread>, fault: &mut [u8]) -> u64
 }
 
 // Memory becomes the image of the listing. The answer is a number, as the C interface has it.
-#[tactic(auto, using(crate::proofs::Faults::not_0, crate::proofs::Faults::block_of_16), unfolding(crate::specs::Listings::number_of, crate::specs::Listings::listing_read, crate::specs::Listings::told_of))]
+#[tactic(auto, using(crate::proofs::Faults::not_0, crate::proofs::Faults::block_of_16), unfolding(crate::specs::Listings::listing_read, crate::specs::Listings::told_of))]
 pub fn read_listing(text: &[u8], memory: &mut [u8], fault: &mut [u8]) -> u64
     ensures { listing_edge result memory.new fault.new ≡ listing_read text.now memory.old fault.old }
 {
