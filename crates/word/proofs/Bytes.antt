@@ -1,9 +1,12 @@
 -- Words in bytes: that the library's eight bytes of a word are the definitions'. Assumes nothing.
-use Rattle.std.proofs.Common.{◌≡◌, ℕ, zero, suc, ◌+◌, ◌/◌, ◌%◌, ◌^◌, ◌<◌, ◌≤◌, true, List, length, take, drop, get_or, set, refl, ap, ◌∙◌, arith, ltb-true, append_assoc, length-set}
+use Rattle.std.proofs.Common.{◌≡◌, ◌-◌, ◌⊎◌, inl, inr, Bor, Option, None, Some, false, lt-ltb, le-ltb, take-take, ℕ, zero, suc, ◌+◌, ◌/◌, ◌%◌, ◌^◌, ◌<◌, ◌≤◌, true, List, length, take, drop, get_or, set, refl, ap, ◌∙◌, arith, ltb-true, append_assoc, length-set}
 use Rattle.std.proofs.Math.Nat.{div-div-eq-div-mul, div-one, pow-suc}
 use Rattle.std.proofs.Math.Seq.{take-suc-set}
 use Rattle.std.proofs.lemmas.List.{get_or-take, get_or-drop, take-append-drop, drop-set-lt, drop-drop}
 use borrow.Rule.Slice.PartMut.{put_mid}
+use Rattle.std.specs.Array.{IsFirstChunk}
+use Rattle.std.specs.List.{slice_range}
+use Rattle.std.specs.Option.{MatchOption}
 use Rattle.std.specs.Int.{w64, from_le_bytes, to_le_bytes, bytes_low_first, byte_at}
 use Rattle.machine.specs.Memory.{lent, inside}
 use Rattle.machine.specs.Words.{number, placed}
@@ -12,6 +15,21 @@ use Rattle.machine.specs.Words.{number, placed}
 pub inside_room : (b : List ℕ) (a : ℕ) → inside (lent b) a ≡ true → a + 8 ≤ length b
 unfolding inside
 inside_room b a e = omega (arith, ltb-true (a + 7) (length b) e)
+
+-- what is left from a on: nothing, or a part of which the first eight bytes are the word's, if it has as many
+pub none_left : (b : List ℕ) (a : ℕ) → (length b < a) ⊎ (length b < length b) → inside (lent b) a ≡ false
+unfolding inside
+none_left b a (inl h) = le-ltb (a + 7) (length b) (omega arith)
+none_left b a (inr h) = absurd (omega arith)
+
+pub some_left : (b : List ℕ) (a : ℕ) (rest : List ℕ) (r : Option (Bor (List ℕ))) → rest ≡ slice_range b a (length b) → length rest + a ≡ length b
+    → MatchOption r (length rest < 8) (λ y. IsFirstChunk rest y.now 8)
+    → MatchOption r (inside (lent b) a ≡ false) (λ y. (inside (lent b) a ≡ true) × (y.now ≡ take 8 (drop a b)))
+unfolding inside
+some_left b a rest None e l m = le-ltb (a + 7) (length b) (omega arith)
+some_left b a rest (Some y) e l m =
+    let enough = m.enough in
+    (lt-ltb (a + 7) (length b) (omega arith), m.same ∙ (ap (take 8) e ∙ take-take 8 (length b - a) (drop a b) (omega arith)))
 
 pub number_is : (b : List ℕ) (a : ℕ) → from_le_bytes w64 (take 8 (drop a b)) ≡ number 8 b a
 unfolding number
