@@ -63,6 +63,13 @@ put_both {s} {t} {a} {b} {c} p q =
       place = omega (arith, length-append s t, p.place, q.place);
     }
 
+pub put_length : {t : List ℕ} {a b : Writer} → Put t a b → length b.buffer.now ≡ length a.buffer.now
+put_length {t} {a} p = ap length p.lent ∙ length-sets a.buffer.now a.at t
+
+-- a text for which the buffer has no place
+pub put_past : {t : List ℕ} {a b : Writer} → Put t a b → length a.buffer.now ≤ a.at → b.buffer.now ≡ a.buffer.now
+put_past {t} {a} p h = p.lent ∙ sets_past t a.buffer.now a.at h
+
 -- AT THE FRONT
 -- the length of a text that fits, and the buffer afterwards: the text, and then the rest as it was
 abbrev pub written : List ℕ → List ℕ → ℕ × List ℕ
@@ -86,11 +93,11 @@ written_within t a b n e =
     let m : n ≡ length t = ap (λ (x : ℕ × List ℕ). x.0) e in
     omega (arith, length-append t (drop (length t) a))
 
--- a text of which no word is too short to tell the length is counted, whether or not it fits
+-- a text whose length is a word is counted, whether or not it fits
 pub put_counted : {t : List ℕ} {b : MutBor (List ℕ)} {v w : Writer} → Begun b v → Put t v w → length t < 2 ^ 64 → w.at ≡ length t
 put_counted o p h = omega (arith, p.place, o.place)
 
--- and what `laid` makes of a log that is lent, a writer makes of its buffer
+-- what `laid` makes of a log that is lent, a writer makes of its buffer, and the other way round
 sets_behind : (x : ℕ) (t b : List ℕ) (at : ℕ) → sets (x ∷ b) (suc at) t ≡ x ∷ sets b at t
 sets_behind x [] b at = refl
 sets_behind x (y ∷ t) b at = sets_behind x t (set b at y) (suc at)
@@ -108,3 +115,13 @@ sets_laid (x ∷ t) (y ∷ b) = sets_behind x t b 0 ∙ ap (λ (l : List ℕ). x
 pub put_laid : {t : List ℕ} {b : MutBor (List ℕ)} {v w : Writer} → Begun b v → Put t v w → w.buffer.now ≡ laid t b.now
 put_laid {t} {b} {v} {w} o p =
     p.lent ∙ (ap (λ (l : List ℕ). sets l v.at t) o.lent ∙ (ap (λ (i : ℕ). sets b.now i t) o.place ∙ sets_laid t b.now))
+
+pub laid_put : (t : List ℕ) {b : MutBor (List ℕ)} {v w : Writer} → Begun b v → length b.now < 2 ^ 64 → length t < 2 ^ 64 → w.buffer.ghost_name ≡ b.ghost_name
+    → w.buffer.now ≡ laid t b.now → w.at ≡ length t → Put t v w
+laid_put t {b} {v} {w} o r h name now count =
+    record {
+      same = name ∙ sym o.same;
+      room = omega (arith, r, ap length o.lent);
+      lent = now ∙ (sym (sets_laid t b.now) ∙ (ap (λ (l : List ℕ). sets l 0 t) (sym o.lent) ∙ ap (λ (i : ℕ). sets v.buffer.now i t) (sym o.place)));
+      place = omega (arith, count, o.place);
+    }

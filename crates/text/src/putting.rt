@@ -3,6 +3,7 @@
 ghost use Rattle.std.specs.Prelude.{◌≡◌, [], ◌∷◌};
 ghost use Rattle.text.specs.Put.{Begun, Put};
 
+// It has no `fmt::Write`: what `write!` puts may fail by its contract, and nothing fails here.
 #[derive(Drop)]
 pub struct Writer<'a> {
     buffer: &'a mut [u8],
