@@ -8,14 +8,14 @@ use clocked::{Finished, Settings, StageD, StageE, StageM, StageW};
 use isa::decoding::{loaded_target, result_target, source_a, source_b};
 use machine::{Decoded, Instruction, NONE, REGISTERS};
 
-// The registers that an instruction writes, 15 for none: worked out in E, and carried on from there.
+// The registers that an instruction writes, 15 for none, which is document 01's own number: worked out in E, and carried on from there.
 #[derive(Clone, Copy)]
 pub struct Targets {
     pub result: u8,
     pub loaded: u8,
 }
 
-// The registers that D's instruction reads, 15 for none.
+// The registers that D's instruction reads, 15 for none, which is document 01's own number.
 #[derive(Clone, Copy)]
 pub struct Sources {
     pub a: u8,
@@ -56,7 +56,7 @@ pub fn awaited_a(settings: Settings, i: Instruction) -> u8
     }
 }
 
-// A bubble's: 15 is document 01's own word for none.
+// A bubble's.
 pub const NO_TARGETS: Targets = Targets {
     result: NONE,
     loaded: NONE,
