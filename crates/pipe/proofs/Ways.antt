@@ -1,41 +1,12 @@
 -- One law for each way out of a function, over variables for what its callees gave. Assumes nothing.
-use mathlib.Core.Path.{◌≡◌, refl}
-use mathlib.Core.Bool.{Bool, true, false, ◌&&◌, ◌||◌}
-use mathlib.Core.List.{List}
+use mathlib.Core.Path.{◌≡◌}
+use mathlib.Core.Bool.{Bool, true, false, ◌||◌}
 use Prim.Native.Nat.{ℕ}
-use lib.Dec.{eqb, ltb, leb}
-use lib.ListN.{set}
-use Rattle.machine.specs.Types.{no_fault}
-use Rattle.machine.specs.declared.Blame.{Blame}
-use Rattle.machine.specs.declared.Instruction.{Instruction}
-use Rattle.machine.specs.declared.Decoded.{Decoded}
-use Rattle.machine.specs.declared.Executed.{Executed}
-use Rattle.machine.specs.declared.Accessed.{Accessed}
-use Rattle.clocked.specs.declared.Retired.{Retired}
 use Rattle.clocked.specs.declared.Settings.{Settings}
 use Rattle.clocked.specs.declared.Pipeline.{Pipeline}
-use Rattle.clocked.specs.Record.{StageD}
-use Rattle.clocked.specs.Record.{bubble_d, in_d}
-use Rattle.clocked.specs.Record.{StageE}
-use Rattle.clocked.specs.Record.{bubble_e, in_e}
-use Rattle.clocked.specs.Record.{StageM}
-use Rattle.clocked.specs.Record.{bubble_m, in_m}
-use Rattle.clocked.specs.Record.{StageW}
-use Rattle.clocked.specs.Record.{bubble_w, in_w}
-use Rattle.clocked.specs.Record.{Kept}
-use Rattle.clocked.specs.Record.{none_kept, last_kept}
-use Rattle.machine.specs.Memory.{Memory}
-use Rattle.machine.specs.Table.{row_of, is}
-use Rattle.machine.specs.Fetch.{blame_of, no_blame}
-use Rattle.clocked.specs.Prediction.{core_of}
-use Rattle.clocked.specs.Pipeline.{wrong}
-use Rattle.clocked.specs.PipeRuns.{instruction_refused, refused_in_d, refused_in_e, refused_in_m, refused_in_w, refused_kept}
 use Rattle.machine.specs.Runs.{size_refused, start_refused, window_refused, budget_refused, lowest}
-use Rattle.clocked.specs.PipeRuns.{counts_refused, settings_refused, record_refused, pipe_start_refusal, pipe_limit}
-use Rattle.stage.specs.declared.forwarding.Targets.{Targets}
-use Rattle.stage.specs.Forwarding.{targets_m, targets_w}
-use Rattle.flow.specs.Moving.{ahead_of}
-use Rattle.pipe.specs.Parts.{flow_of, blame_in, noted, refusal_by}
+use Rattle.clocked.specs.PipeRuns.{settings_refused, record_refused, pipe_start_refusal, pipe_limit}
+use Rattle.pipe.specs.Parts.{refusal_by}
 
 -- REFUSALS
 module _ (short : Bool) (p : Pipeline) (size budget : ℕ) (s b r v : Bool) (es : s ≡ size_refused size) where

@@ -12,7 +12,7 @@ use flow::{Ahead, Flow, advance};
 use isa::decoding::is_bad;
 use machine::{Blame, Fault, REGISTERS, Status};
 use retiring::{Tally, counted, retires, status_after};
-use stage::forwarding::{targets_in};
+use stage::forwarding::targets_in;
 use stage::signals::{bad_in_w, wrong};
 
 // What a clock moves.

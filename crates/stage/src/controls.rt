@@ -77,11 +77,7 @@ pub fn next_d(
     if waits {
         return held_d(d);
     }
-    if returns {
-        None
-    } else {
-        Some(afresh(fetched))
-    }
+    if returns { None } else { Some(afresh(fetched)) }
 }
 
 // What goes on into a stage, or a bubble in its place. E has one behind a store into the window, for misprediction and for load-use;

@@ -26,10 +26,13 @@ pub struct Sources {
 pub fn sources_d(d: StageD) -> Sources
     ensures { result ≡ sources_d d }
 {
-    d.map_or(Sources { a: NONE, b: NONE }, |i| Sources {
-        a: source_a(i),
-        b: source_b(i),
-    })
+    d.map_or(
+        Sources { a: NONE, b: NONE },
+        |i| Sources {
+            a: source_a(i),
+            b: source_b(i),
+        },
+    )
 }
 
 // Of D's sources the one that may come late is not waited for.
@@ -67,10 +70,13 @@ pub const NO_TARGETS: Targets = Targets {
 pub fn targets_in<T: Finished + Copy>(stage: Option<T>) -> Targets
     ensures { result ≡ targets_in T.instruction_of T.holds_of stage }
 {
-    stage.map_or(NO_TARGETS, |x| Targets {
-        result: result_target(x.instruction(), x.holds()),
-        loaded: loaded_target(x.instruction()),
-    })
+    stage.map_or(
+        NO_TARGETS,
+        |x| Targets {
+            result: result_target(x.instruction(), x.holds()),
+            loaded: loaded_target(x.instruction()),
+        },
+    )
 }
 
 #[tactic(auto, unfolding(crate::specs::Forwarding::value_in))]
