@@ -1,4 +1,4 @@
-// The pipelined engine's limit and its types. What they mean, document 01's five-stage rules, is in specs/.
+// The pipelined engine's limit and its types, and what these carry. What they mean, document 01's five-stage rules, is in specs/.
 
 #![tactic(auto)]
 
@@ -156,9 +156,9 @@ impl Finished for Executed {
 }
 
 impl Finished for Accessed {
-    ghost result_of = { λ x. x.result };
+    ghost result_of = { λ w. w.result };
 
-    ghost holds_of = { λ x. x.holds };
+    ghost holds_of = { λ w. w.holds };
 
     fn result(self) -> u64 {
         self.result

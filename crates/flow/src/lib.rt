@@ -50,6 +50,7 @@ pub struct Signals {
     pub cancels: bool,
 }
 
+// The stages come one by one: a struct of them would be made for this call alone.
 #[tactic(auto, unfolding(crate::specs::Moving::signals_by, crate::specs::Moving::signals_with))]
 fn signals_now(
     settings: Settings,

@@ -12,7 +12,7 @@ use flow::{Ahead, Flow, advance};
 use isa::decoding::is_bad;
 use machine::{Blame, Fault, REGISTERS, Status};
 use retiring::{Tally, counted, retires, status_after};
-use stage::forwarding::{targets_in};
+use stage::forwarding::targets_in;
 use stage::signals::{bad_in_w, wrong};
 
 // What a clock moves.
@@ -20,24 +20,18 @@ use stage::signals::{bad_in_w, wrong};
 fn flow_of(p: Pipeline) -> Flow
     ensures { result ≡ flow_of p }
 {
-    let settings = p.settings;
-    let d = p.d;
-    let e = p.e;
-    let m = p.m;
-    let w = p.w;
-    let codes = p.codes;
     let ahead = Ahead {
-        m: targets_in(m),
-        w: targets_in(w),
-        wrong: wrong(settings, m),
+        m: targets_in(p.m),
+        w: targets_in(p.w),
+        wrong: wrong(p.settings, p.m),
     };
     Flow {
         predicted: p.predicted,
-        d,
-        e,
-        m,
-        w,
-        codes,
+        d: p.d,
+        e: p.e,
+        m: p.m,
+        w: p.w,
+        codes: p.codes,
         ahead,
     }
 }
@@ -47,14 +41,12 @@ fn flow_of(p: Pipeline) -> Flow
 fn tally_of(p: Pipeline) -> Tally
     ensures { result ≡ tally_of p }
 {
-    let kinds = p.kinds;
-    let kept = p.kept;
     Tally {
         last: p.last,
         retired: p.retired,
         cycles: p.cycles,
-        kinds,
-        kept,
+        kinds: p.kinds,
+        kept: p.kept,
     }
 }
 
@@ -69,28 +61,21 @@ fn put_together(
 ) -> Pipeline
     ensures { result ≡ whole settings flow tally status registers blame }
 {
-    let d = flow.d;
-    let e = flow.e;
-    let m = flow.m;
-    let w = flow.w;
-    let codes = flow.codes;
-    let kinds = tally.kinds;
-    let kept = tally.kept;
     Pipeline {
         settings,
         predicted: flow.predicted,
-        d,
-        e,
-        m,
-        w,
+        d: flow.d,
+        e: flow.e,
+        m: flow.m,
+        w: flow.w,
         registers,
-        codes,
+        codes: flow.codes,
         status,
         last: tally.last,
         retired: tally.retired,
         cycles: tally.cycles,
-        kinds,
-        kept,
+        kinds: tally.kinds,
+        kept: tally.kept,
         blame,
     }
 }

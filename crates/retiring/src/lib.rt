@@ -80,7 +80,7 @@ fn count(kinds: Kinds, reason: Option<Reason>) -> Kinds
     }
 }
 
-// Built afresh on every way on which it stays.
+// Built afresh on every way on which it stays, by hand as it was measured (docs/BENCH.md).
 fn still_kept(kept: Kept) -> Kept
     ensures { result ≡ kept }
 {

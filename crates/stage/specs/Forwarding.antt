@@ -1,6 +1,6 @@
 -- Sources and targets, taken out of the stages once, and decode by them.
 use Rattle.std.specs.Prelude.{ℕ, Bool, cond, eqb, ltb}
-use Rattle.stage.specs.Types.{Option, Instruction, StageD, bubble_d, in_d, StageE, bubble_e, in_e, StageM, bubble_m, in_m, StageW, bubble_w, in_w}
+use Rattle.stage.specs.Types.{Option, Instruction, StageD, bubble_d, in_d, StageE, bubble_e, in_e, StageM, bubble_m, in_m, StageW}
 use Rattle.clocked.specs.Prediction.{Core, takes_late}
 use Rattle.machine.specs.Memory.{Registers, value, written}
 use Rattle.machine.specs.Stages.{source_a, source_b, result_target, loaded_target}

@@ -32,7 +32,7 @@ pub fn next_f(
     }
 }
 
-// Field by field: two branches that each hand on a whole struct are compiled to one copy of it in memory.
+// Field by field, as it was measured (docs/BENCH.md): two branches that each hand on a whole struct are compiled to one copy of it in memory.
 pub fn afresh(i: Instruction) -> Instruction
     ensures { result ≡ i }
 {
@@ -51,6 +51,7 @@ pub fn afresh(i: Instruction) -> Instruction
     }
 }
 
+// By hand for the same measured reason.
 fn held_d(d: StageD) -> StageD
     ensures { result ≡ d }
 {
@@ -76,11 +77,7 @@ pub fn next_d(
     if waits {
         return held_d(d);
     }
-    if returns {
-        None
-    } else {
-        Some(afresh(fetched))
-    }
+    if returns { None } else { Some(afresh(fetched)) }
 }
 
 // What goes on into a stage, or a bubble in its place. E has one behind a store into the window, for misprediction and for load-use;
@@ -91,7 +88,7 @@ pub fn next_stage<T: Drop>(emptied: bool, stage: Option<T>) -> Option<T>
     if emptied { None } else { stage }
 }
 
-// The targets of what goes into M.
+// The targets of what goes into M, beside it: they are no Option, since 15 already says none.
 pub fn next_targets(emptied: bool, executed: Targets) -> Targets
     ensures { result ≡ cond emptied no_targets executed }
 {

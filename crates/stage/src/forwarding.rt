@@ -8,14 +8,14 @@ use clocked::{Finished, Settings, StageD, StageE, StageM, StageW};
 use isa::decoding::{loaded_target, result_target, source_a, source_b};
 use machine::{Decoded, Instruction, NONE, REGISTERS};
 
-// The registers that an instruction writes, 15 for none: worked out in E, and carried on from there.
+// The registers that an instruction writes, 15 for none, which is document 01's own number: worked out in E, and carried on from there.
 #[derive(Clone, Copy)]
 pub struct Targets {
     pub result: u8,
     pub loaded: u8,
 }
 
-// The registers that D's instruction reads, 15 for none.
+// The registers that D's instruction reads, 15 for none, which is document 01's own number.
 #[derive(Clone, Copy)]
 pub struct Sources {
     pub a: u8,
@@ -26,10 +26,13 @@ pub struct Sources {
 pub fn sources_d(d: StageD) -> Sources
     ensures { result ≡ sources_d d }
 {
-    d.map_or(Sources { a: NONE, b: NONE }, |i| Sources {
-        a: source_a(i),
-        b: source_b(i),
-    })
+    d.map_or(
+        Sources { a: NONE, b: NONE },
+        |i| Sources {
+            a: source_a(i),
+            b: source_b(i),
+        },
+    )
 }
 
 // Of D's sources the one that may come late is not waited for.
@@ -56,7 +59,7 @@ pub fn awaited_a(settings: Settings, i: Instruction) -> u8
     }
 }
 
-// A bubble's: 15 is document 01's own word for none.
+// A bubble's.
 pub const NO_TARGETS: Targets = Targets {
     result: NONE,
     loaded: NONE,
@@ -67,10 +70,13 @@ pub const NO_TARGETS: Targets = Targets {
 pub fn targets_in<T: Finished + Copy>(stage: Option<T>) -> Targets
     ensures { result ≡ targets_in T.instruction_of T.holds_of stage }
 {
-    stage.map_or(NO_TARGETS, |x| Targets {
-        result: result_target(x.instruction(), x.holds()),
-        loaded: loaded_target(x.instruction()),
-    })
+    stage.map_or(
+        NO_TARGETS,
+        |x| Targets {
+            result: result_target(x.instruction(), x.holds()),
+            loaded: loaded_target(x.instruction()),
+        },
+    )
 }
 
 #[tactic(auto, unfolding(crate::specs::Forwarding::value_in))]

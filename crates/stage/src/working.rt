@@ -20,7 +20,8 @@ fn handed_a(settings: Settings, w: StageW, x: Decoded) -> u64
 {
     let i = x.instruction;
     match w {
-        Some(y) if takes_late(settings, i) && meets(loaded_target(y.instruction), source_a(i)) => y.word,
+        Some(y) if takes_late(settings, i) && meets(loaded_target(y.instruction), source_a(i)) =>
+            y.word,
         _ => x.a,
     }
 }
