@@ -1,6 +1,6 @@
 -- Document 01's "Program": the registers' lines.
-use Rattle.std.specs.Prelude.{ℕ, zero, suc, ◌*◌, ◌^◌, ◌<◌, ◌≤◌, Bool, true, false, cond, List, [], ◌∷◌, ◌++◌, eqb, length, get_or}
-use Rattle.std.proofs.Common.{arith, length-append}
+use Rattle.std.specs.Prelude.{◌≡◌, ℕ, zero, suc, ◌*◌, ◌^◌, ◌<◌, ◌≤◌, Bool, true, false, cond, List, [], ◌∷◌, ◌++◌, eqb, length, get_or}
+use Rattle.std.proofs.Common.{arith, length-append, eq-eqb}
 use Prim.Native.String.{String}
 use Rattle.text.specs.Bytes.{bytes, longest, at_most_longest}
 use Rattle.report_lines.specs.Lines.{number_line, number_length}
@@ -31,6 +31,10 @@ register_name k = get_or register_names k ""
 -- "Then `reg`, name, unsigned value for each register not 0"
 unfoldable pub register_line : ℕ → ℕ → List ℕ
 register_line k v = cond (eqb v 0) [] (bytes "reg" ++ bytes "\t" ++ number_line (register_name k) v)
+
+pub no_line : (k v : ℕ) → v ≡ 0 → register_line k v ≡ []
+unfolding register_line
+no_line k v h = rw (eq-eqb v 0 h)
 
 -- "in number order": the lines of the registers below k
 unfoldable pub register_lines : ℕ → List ℕ → List ℕ

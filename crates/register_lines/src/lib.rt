@@ -31,13 +31,15 @@ pub fn put_named(out: &mut Writer<'_>, k: usize, v: u64)
 }
 
 // A register that is not 0 has a line.
+#[tactic(auto, using(crate::specs::Registers::no_line))]
 fn put_register(out: &mut Writer<'_>, k: usize, v: u64)
     ensures { Put (register_line k v) out.old out.new }
 {
-    if v != 0 {
-        out.text(b"reg\t");
-        put_named(out, k, v);
+    if v == 0 {
+        return;
     }
+    out.text(b"reg\t");
+    put_named(out, k, v);
 }
 
 pub fn put_registers(out: &mut Writer<'_>, registers: [u64; 15])

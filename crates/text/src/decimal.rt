@@ -7,6 +7,7 @@ use crate::putting::Writer;
 
 impl Writer<'_> {
     // The digits of the tenth, and the last digit behind them.
+    #[tactic(auto, using(crate::specs::Decimal::decimal_one))]
     pub fn decimal(&mut self, n: u64)
         ensures { Put (decimal n) self.old self.new }
     {

@@ -17,6 +17,7 @@ fn put_digit(out: &mut Writer<'_>, digit: u8)
 }
 
 // The digits of the sixteenth, and the last digit behind them.
+#[tactic(auto, using(crate::proofs::Digits::one_hex))]
 fn put_digits(out: &mut Writer<'_>, left: usize, n: u64)
     ensures { Put (hex_digits left n) out.old out.new }
 {
