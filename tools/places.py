@@ -131,7 +131,7 @@ def point_6():
         if re.search(r"buffer: &mut \[u8\],\s+at: usize", clauses):
             yield f, n, "fn " + name + ": buffer and place"
     for f, text in FILES.items():
-        for m in re.finditer(r"^(?:pub )?const (\w+): \[u8; (\w+)\] =", text, re.M):
+        for m in re.finditer(r"^(?:pub )?const (\w+): \[\w+; (\w+)\] =", text, re.M):
             yield f, line_of(text, m.start()), f"table {m.group(1)} of {m.group(2)}"
 
 
