@@ -14,10 +14,9 @@ use Rattle.peaks.specs.declared.Comparison.{Comparison}
 use Rattle.peaks.specs.declared.Day.{Day}
 use Rattle.peaks.specs.declared.Refusal.{Refusal}
 use Rattle.peaks.specs.declared.raw.Raw.{Raw}
-use Rattle.peaks.specs.Types.{refusal_number}
 use Rattle.peaks.specs.Mean.{mean_bits}
 use Rattle.peaks.specs.Day.{judged}
-use Rattle.std.specs.Prelude.{Option, None, Some, Result, Ok, Err}
+use Rattle.std.specs.Prelude.{Result, Ok}
 use Rattle.report_lines.specs.Lines.{number_line}
 use Rattle.report.specs.Report.{image_refused, image_run}
 use Rattle.text.specs.Put.{Put, put_both, put_front, written}
@@ -25,7 +24,7 @@ use Rattle.dayreport.specs.declared.line.Request.{Request}
 use Rattle.dayreport.specs.declared.line.FirstLine.{FirstLine}
 use Rattle.dayreport.specs.declared.line.FirstLine.TheVariants.{BadLine as bad_line, Asks as asks}
 use Rattle.dayreport.specs.Line.{first_line}
-use Rattle.dayreport.specs.Lines.{filed_line, peak_lines, total_lines, found_lines, missing, missing_lines, lines_of, day_lines, answer_lines}
+use Rattle.dayreport.specs.Lines.{filed_line, peak_lines, total_lines, found_lines, missing, missing_lines, day_lines, answer_lines}
 use Rattle.dayreport.specs.Program.{day_answer, request_text, requested, input_text, input_left}
 use Rattle.dayreport.specs.Program.{written_for, answered_input}
 
@@ -54,25 +53,12 @@ module _ {a b : List ℕ} {at r : ℕ} where
   pub filed_line_lem : (s t : Comparison) → s ≡ t → Put (filed_line t) at a r b → Put (filed_line s) at a r b
   filed_line_lem s t e x = subst (λ (u : Comparison). Put (filed_line u) at a r b) (sym e) x
 
-  pub day_missed : (day : Day) → day.found ≡ None → Put (missing_lines day) at a r b → Put (day_lines day) at a r b
-  unfolding day_lines lines_of
-  day_missed day e x = subst (λ (f : Option Raw). Put (lines_of day f) at a r b) (sym e) x
-
-  pub day_found : (day : Day) (raw : Raw) → day.found ≡ Some raw → Put (found_lines day raw) at a r b → Put (day_lines day) at a r b
-  unfolding day_lines lines_of
-  day_found day raw e x = subst (λ (f : Option Raw). Put (lines_of day f) at a r b) (sym e) x
-
 -- a text of at most 144 bytes stands whole in the buffer
 pub whole : {t a b : List ℕ} {r : ℕ} → Put t 0 a r b → r ≤ 144 → length a ≡ 144 → ◌≡◌ {A = ℕ × List ℕ} (r, b) (written t a)
 whole p l h = put_front p (omega (arith, p.place))
 
 -- THE ANSWER
 module _ (a : Result Day Refusal) (out : List ℕ) {b : List ℕ} {r : ℕ} where
-  pub answer_refused : (k : Refusal) (n : ℕ) → a ≡ Err k → n ≡ refusal_number k → ◌≡◌ {A = ℕ × List ℕ} (r, b) (written (number_line "refused" n) out)
-      → ◌≡◌ {A = ℕ × List ℕ} (r, b) (written (answer_lines a) out)
-  unfolding answer_lines
-  answer_refused k n e f x = rw (e, ← f) x
-
   pub answer_day : (d : Day) → a ≡ Ok d → ◌≡◌ {A = ℕ × List ℕ} (r, b) (written (day_lines d) out)
       → ◌≡◌ {A = ℕ × List ℕ} (r, b) (written (answer_lines a) out)
   unfolding answer_lines

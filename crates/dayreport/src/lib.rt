@@ -23,6 +23,7 @@ fn write_refusal(number: u64, out: &mut [u8; 144]) -> usize
     put_number(out, 0, b"refused", number)
 }
 
+#[tactic(auto, unfolding(crate::specs::Lines::answer_lines))]
 fn write_answer(answer: Result<Day, Refusal>, out: &mut [u8; 144]) -> usize
     ensures { ◌≡◌ {A = ℕ × List ℕ} (result, out.new) (written (answer_lines answer) out.old) }
 {

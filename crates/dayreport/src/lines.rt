@@ -60,6 +60,7 @@ fn put_missing(buffer: &mut [u8], at: usize, day: Day) -> usize
     put_text(buffer, b, b"mean\t-\nfiled\t-\n")
 }
 
+#[tactic(auto, unfolding(crate::specs::Lines::day_lines, crate::specs::Lines::lines_of))]
 pub fn put_day(buffer: &mut [u8], at: usize, day: Day) -> usize
     requires { at + 144 < 2 ^ 64 }
     ensures put { Put (day_lines day) at buffer.old result buffer.new }

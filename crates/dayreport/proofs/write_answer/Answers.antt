@@ -1,9 +1,6 @@
 use Rattle.std.proofs.Common.{arith, rules}
-use Rattle.dayreport.proofs.Ways.{whole, answer_refused, answer_day}
+use Rattle.dayreport.proofs.Ways.{whole, answer_day}
 use Rattle.dayreport.proofs.write_answer.Goals as goal
-
-pub returns-in-Err : goal.returns-in-Err
-returns-in-Err c = answer_refused _ _ _ _ c.in-Err.is c.into.ensures c.write_refusal.ensures
 
 pub returns-in-Ok : goal.returns-in-Ok
 returns-in-Ok c = answer_day _ _ _ c.in-Ok.is (whole c.put_day.ensures.put (omega arith) (search rules))

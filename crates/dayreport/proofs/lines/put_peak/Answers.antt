@@ -1,12 +1,8 @@
 use Rattle.dayreport.proofs.Ways.{peak}
 use Rattle.text.specs.Bytes.{bytes}
-use native.Mathlib.Omega.{arith}
 use Rattle.dayreport.proofs.lines.put_peak.Goals as goal
 
-pub returns : goal.returns
+pub returns-clause-put : goal.returns-clause-put
 unfolding bytes
-returns c = record {
-  put = peak c.args.raw
-      c.put_number-a.ensures.put c.put_number.ensures.put;
-  upper_bound = omega arith;
-}
+returns-clause-put c =
+    peak c.args.raw c.put_number-a.ensures.put c.put_number.ensures.put

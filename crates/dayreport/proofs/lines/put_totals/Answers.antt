@@ -1,12 +1,8 @@
 use Rattle.dayreport.proofs.Ways.{totals}
 use Rattle.text.specs.Bytes.{bytes}
-use native.Mathlib.Omega.{arith}
 use Rattle.dayreport.proofs.lines.put_totals.Goals as goal
 
-pub returns : goal.returns
+pub returns-clause-put : goal.returns-clause-put
 unfolding bytes
-returns c = record {
-  put = totals c.args.day
-      c.put_number-a.ensures.put c.put_number.ensures.put;
-  upper_bound = omega arith;
-}
+returns-clause-put c =
+    totals c.args.day c.put_number-a.ensures.put c.put_number.ensures.put
