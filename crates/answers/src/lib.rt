@@ -4,7 +4,7 @@
 
 ghost use Rattle.std.specs.Prelude.{◌≡◌, cond, ◌≤◌, set};
 ghost use Rattle.machine.specs.Runs.{size_refused, budget_refused, start_refused, window_refused, start_refusal};
-ghost use Rattle.answers.specs.Numbers.{refusal_number};
+ghost use Rattle.answers.specs.Numbers.{refusal_number, number_of, number_in, record_in};
 
 use machine::{MEMORY_LIMIT, Window};
 
@@ -25,7 +25,6 @@ pub enum Refusal {
 impl From<Refusal> for u64 {
     ghost from_gives = { λ r n. n ≡ refusal_number r };
 
-    #[tactic(auto, unfolding(crate::specs::Numbers::refusal_number))]
     fn from(refusal: Refusal) -> u64 {
         match refusal {
             Refusal::MemorySize => 1,
@@ -44,10 +43,32 @@ impl From<Refusal> for u64 {
 #[derive(Clone, Copy)]
 pub struct Refused<R> {
     pub why: Refusal,
-    pub record: R,
+    pub given: R,
+}
+
+// The record that was given, where nothing refused it.
+pub fn unless_refused<R: Copy>(refused: Result<(), Refusal>, given: R) -> Result<R, Refused<R>>
+    ensures number { number_in result ≡ number_of refused }
+    ensures record { record_in result ≡ given }
+{
+    match refused {
+        Ok(()) => Ok(given),
+        Err(why) => Err(Refused { why, given }),
+    }
+}
+
+// The record of an answer, refused or not.
+pub fn record_of<R: Copy>(answer: Result<R, Refused<R>>) -> R
+    ensures { result ≡ record_in answer }
+{
+    match answer {
+        Ok(record) => record,
+        Err(refused) => refused.given,
+    }
 }
 
 // Refusal 1: no memory, or more than 65,536 bytes.
+#[tactic(auto, unfolding(machine::specs::Runs::size_refused))]
 pub fn size_refused(size: usize) -> bool
     ensures { result ≡ size_refused size }
 {
@@ -55,6 +76,7 @@ pub fn size_refused(size: usize) -> bool
 }
 
 // Refusal 6: a fresh start's address is not below N.
+#[tactic(auto, unfolding(machine::specs::Runs::start_refused))]
 pub fn start_refused(size: usize, address: u64) -> bool
     ensures { result ≡ start_refused size address }
 {
@@ -62,6 +84,7 @@ pub fn start_refused(size: usize, address: u64) -> bool
 }
 
 // Refusal 5: a window that reaches past memory, or whose end is below its first address.
+#[tactic(auto, unfolding(machine::specs::Runs::window_refused))]
 pub fn window_refused(window: Window, size: usize) -> bool
     ensures { result ≡ window_refused window size }
 {
@@ -72,36 +95,35 @@ pub fn window_refused(window: Window, size: usize) -> bool
     }
 }
 
-// The lowest refusal of a fresh start, or 0.
-pub fn start_refusal(window: Window, size: usize, address: u64) -> u64
-    ensures { result ≡ start_refusal window size address }
+// The lowest refusal of a fresh start.
+#[tactic(auto, unfolding(machine::specs::Runs::start_refusal, machine::specs::Runs::lowest))]
+pub fn start_refusal(window: Window, size: usize, address: u64) -> Result<(), Refusal>
+    ensures { number_of result ≡ start_refusal window size address }
 {
     if size_refused(size) {
-        return 1;
+        return Err(Refusal::MemorySize);
     }
     if window_refused(window, size) {
-        return 5;
+        return Err(Refusal::BadRecord);
     }
     if start_refused(size, address) {
-        return 6;
+        return Err(Refusal::StartOutside);
     }
-    0
+    Ok(())
 }
 
-// Refusal 3: no budget, or one that passes the limit; no sum is made that could wrap.
+// Refusal 3: no budget, or one that passes the limit; a sum that would wrap passes it.
+#[tactic(auto, unfolding(machine::specs::Runs::budget_refused))]
 pub fn budget_refused(limit: u64, count: u64, budget: u64) -> bool
     ensures { result ≡ budget_refused limit count budget }
 {
-    if budget == 0 {
-        return true;
+    match count.checked_add(budget) {
+        None => true,
+        Some(sum) => (budget == 0) | (limit < sum),
     }
-    if limit < budget {
-        return true;
-    }
-    limit - budget < count
 }
 
-// Place k of a lent log takes x, where the log has that place.
+// Place k of a lent log takes x, where the log has that place. The place is tested, for a slice's `get_mut` promises no element afterwards.
 pub fn note(log: &mut [u64], k: u64, x: u64)
     ensures { log.new ≡ set log.old k x }
 {

@@ -15,7 +15,7 @@ unfolding
     Charges.charges Charges.kinds_of Charges.due Charges.due_cycles
     Pipeline.pipe_start Pipeline.after_e Pipeline.after_m Pipeline.handed_a Pipeline.handed Pipeline.executing Pipeline.codes_after
     Pipeline.memory_after Pipeline.registers_after Pipeline.past_result Pipeline.past_both Pipeline.source_w Pipeline.source_m Pipeline.source Pipeline.waits_behind Pipeline.waits
-    Pipeline.wrong Pipeline.mispredicts Pipeline.ret_in_d Pipeline.ret_in_e Pipeline.ret_in_m Pipeline.returns Pipeline.bad_in_w Pipeline.fails Pipeline.patched_in_w Pipeline.cancels Pipeline.restart Pipeline.returned_to Pipeline.mended
+    Pipeline.wrong Pipeline.mispredicts Pipeline.ret_in Pipeline.ret_in_d Pipeline.ret_in_e Pipeline.ret_in_m Pipeline.returns Pipeline.bad_in_w Pipeline.fails Pipeline.patched_in_w Pipeline.cancels Pipeline.restart Pipeline.returned_to Pipeline.mended
     Pipeline.fetch_address Pipeline.fetched_now Pipeline.next_f Pipeline.next_d Pipeline.decoded_d Pipeline.next_e Pipeline.next_m Pipeline.next_codes
     Pipeline.last_after Pipeline.retired_after Pipeline.kinds_after Pipeline.kept_after Pipeline.logged Pipeline.advanced Pipeline.stopped_in
     Pipeline.clock_by Pipeline.clock Pipeline.clocks

@@ -3,8 +3,7 @@ use Rattle.std.specs.Prelude.{ℕ, Bool, false, cond, ◌&&◌, ◌||◌, List, 
 use Rattle.machine.specs.Memory.{Memory, size, through, Registers}
 use Rattle.machine.specs.Table.{row_of, is, cmov, operation, jump}
 use Rattle.machine.specs.Runs.{laid, size_refused, budget_refused, log_refused, start_refused, window_refused, lowest}
-use Rattle.clocked.specs.Record.{Settings, no_window, Pipeline, Instruction, StageD, bubble_d, in_d, StageE, bubble_e, in_e, StageM, bubble_m, in_m, StageW, bubble_w, in_w}
-use Rattle.clocked.specs.Record.{Codes, Kept, none_kept, last_kept}
+use Rattle.clocked.specs.Record.{Settings, no_window, Pipeline, Instruction, Option, StageD, bubble_d, in_d, StageE, StageM, StageW, Codes, Kept}
 use Rattle.clocked.specs.Prediction.{core_of}
 use Rattle.clocked.specs.Pipeline.{Piped, piped_of, pipe_start, clocks}
 
@@ -15,25 +14,30 @@ instruction_refused i =
     || (eqb (row_of i.code).functions 0
     || ((is cmov i || (is jump i || is operation i)) && leb (row_of i.code).functions i.function)))
 
+-- what carries an instruction, where there is one
+unfoldable pub refused_in : {A : Type 0} → (A → Instruction) → Option A → Bool
+refused_in f bubble_d = false
+refused_in f (in_d x) = instruction_refused (f x)
+
 unfoldable pub refused_in_d : StageD → Bool
-refused_in_d bubble_d = false
-refused_in_d (in_d i) = instruction_refused i
+unfolding refused_in
+refused_in_d d = refused_in (λ i. i) d
 
 unfoldable pub refused_in_e : StageE → Bool
-refused_in_e bubble_e = false
-refused_in_e (in_e x) = instruction_refused x.instruction
+unfolding refused_in
+refused_in_e e = refused_in (λ x. x.instruction) e
 
 unfoldable pub refused_in_m : StageM → Bool
-refused_in_m bubble_m = false
-refused_in_m (in_m x) = instruction_refused x.instruction
+unfolding refused_in
+refused_in_m m = refused_in (λ x. x.instruction) m
 
 unfoldable pub refused_in_w : StageW → Bool
-refused_in_w bubble_w = false
-refused_in_w (in_w w) = instruction_refused w.instruction
+unfolding refused_in
+refused_in_w w = refused_in (λ x. x.instruction) w
 
 unfoldable pub refused_kept : Kept → Bool
-refused_kept none_kept = false
-refused_kept (last_kept k) = instruction_refused k.instruction
+unfolding refused_in
+refused_kept k = refused_in (λ x. x.instruction) k
 
 -- 5: "retired or a kind's count above cycles"
 unfoldable pub counts_refused : Pipeline → Bool

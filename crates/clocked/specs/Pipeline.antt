@@ -1,7 +1,7 @@
 -- The pipelined engine, one clock at a time.
 use Rattle.std.specs.Prelude.{ℕ, zero, suc, ◌+◌, Bool, false, cond, ◌&&◌, ◌||◌, List, [], ◌∷◌, ◌++◌}
 use Rattle.machine.specs.Types.{is_bad}
-use Rattle.clocked.specs.Record.{Settings, Pipeline, Instruction, Decoded, Accessed, Codes, aok, Kinds}
+use Rattle.clocked.specs.Record.{Option, Settings, Pipeline, Instruction, Decoded, Accessed, Codes, aok, Kinds}
 use Rattle.clocked.specs.Record.{StageD, bubble_d, in_d, StageE, bubble_e, in_e, StageM, bubble_m, in_m, StageW, bubble_w, in_w, Kept, none_kept, last_kept}
 use Rattle.machine.specs.Memory.{Memory, through, Registers, value}
 use Rattle.machine.specs.Table.{is, ret}
@@ -116,17 +116,22 @@ wrong g (in_m x) = mispredicted g x.instruction x.holds
 unfoldable pub mispredicts : Core → Piped → Bool
 mispredicts g p = wrong g (after_e (executing g p) p.pipeline.codes)
 
+-- by where what stands in a stage has its instruction
+unfoldable pub ret_in : {A : Type 0} → (A → Instruction) → Option A → Bool
+ret_in f bubble_d = false
+ret_in f (in_d x) = is ret (f x)
+
 unfoldable pub ret_in_d : StageD → Bool
-ret_in_d bubble_d = false
-ret_in_d (in_d i) = is ret i
+unfolding ret_in
+ret_in_d d = ret_in (λ i. i) d
 
 unfoldable pub ret_in_e : StageE → Bool
-ret_in_e bubble_e = false
-ret_in_e (in_e x) = is ret x.instruction
+unfolding ret_in
+ret_in_e e = ret_in (λ x. x.instruction) e
 
 unfoldable pub ret_in_m : StageM → Bool
-ret_in_m bubble_m = false
-ret_in_m (in_m x) = is ret x.instruction
+unfolding ret_in
+ret_in_m m = ret_in (λ x. x.instruction) m
 
 -- "ret in D, E or M"
 unfoldable pub returns : Piped → Bool

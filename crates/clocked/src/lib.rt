@@ -2,6 +2,9 @@
 
 #![tactic(auto)]
 
+ghost use Rattle.std.specs.Prelude.{◌≡◌};
+ghost use Rattle.machine.specs.declared.Instruction.{Instruction as InstructionOf};
+
 use machine::{Accessed, Blame, Codes, Decoded, Executed, Instruction, REGISTERS, Status, Window};
 
 // The most cycles that are not refused.
@@ -75,4 +78,52 @@ pub struct Pipeline {
     pub kinds: Kinds,
     pub kept: Kept,
     pub blame: Blame,
+}
+
+// What carries an instruction: what stands in a stage, and what is kept.
+pub trait Carries {
+    ghost instruction_of: { Self → InstructionOf };
+
+    fn instruction(self) -> Instruction
+        ensures { result ≡ instruction_of self };
+}
+
+impl Carries for Instruction {
+    ghost instruction_of = { λ i. i };
+
+    fn instruction(self) -> Instruction {
+        self
+    }
+}
+
+impl Carries for Decoded {
+    ghost instruction_of = { λ x. x.instruction };
+
+    fn instruction(self) -> Instruction {
+        self.instruction
+    }
+}
+
+impl Carries for Executed {
+    ghost instruction_of = { λ x. x.instruction };
+
+    fn instruction(self) -> Instruction {
+        self.instruction
+    }
+}
+
+impl Carries for Accessed {
+    ghost instruction_of = { λ x. x.instruction };
+
+    fn instruction(self) -> Instruction {
+        self.instruction
+    }
+}
+
+impl Carries for Retired {
+    ghost instruction_of = { λ k. k.instruction };
+
+    fn instruction(self) -> Instruction {
+        self.instruction
+    }
 }

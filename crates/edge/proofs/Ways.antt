@@ -5,6 +5,9 @@ use mathlib.Core.List.{List, []}
 use Prim.Native.Nat.{ℕ}
 use borrow.Author.Tests.{ne_eqb}
 use lib.ListN.{length}
+use Rattle.std.specs.Prelude.{Result}
+use Rattle.answers.specs.declared.Refused.{Refused}
+use Rattle.answers.specs.Numbers.{number_in, record_in}
 use Rattle.machine.specs.declared.Codes.{Codes}
 use Rattle.clocked.specs.declared.Settings.{Settings}
 use Rattle.clocked.specs.declared.Pipeline.{Pipeline}
@@ -18,15 +21,16 @@ use Rattle.edge.specs.Edge.{Edge, edge, edge_done, edge_run, replayed_by, replay
 
 -- THE RUN
 module _ (s : Settings) (memory registers : List ℕ) (start codes budget : ℕ) where
-  pub runs : (words : List ℕ) (c : Codes) (fresh end : Pipeline) (told number : ℕ) (memory' : List ℕ)
-      → words ≡ words_in 15 registers 0 → c ≡ codes_from codes → ◌≡◌ {A = ℕ × Pipeline} (told, fresh) (pipe_started s (length memory) words c start)
-      → pipe_answer number end (lent memory') [] [] ≡ pipe_run_unlogged fresh (lent memory) budget
+  pub runs : (words : List ℕ) (c : Codes) (started ran : Result Pipeline (Refused Pipeline)) (fresh end : Pipeline) (memory' : List ℕ)
+      → words ≡ words_in 15 registers 0 → c ≡ codes_from codes
+      → ◌≡◌ {A = ℕ × Pipeline} (number_in started, record_in started) (pipe_started s (length memory) words c start) → fresh ≡ record_in started
+      → pipe_answer (number_in ran) (record_in ran) (lent memory') [] [] ≡ pipe_run_unlogged fresh (lent memory) budget → end ≡ record_in ran
       → (end ≡ (edge_run s memory registers start codes budget).pipeline) × (memory' ≡ (edge_run s memory registers start codes budget).memory.bytes)
   unfolding edge_run pipe_started
-  runs words c fresh end told number memory' e f g r =
-      let started : fresh ≡ pipe_start s words c start = ap (λ (x : ℕ × Pipeline). x.1) g in
-      let run : pipe_answer number end (lent memory') [] [] ≡ edge_run s memory registers start codes budget = cc in
-      (ap (λ (o : PipeAnswer). o.pipeline) run, ap (λ (o : PipeAnswer). o.memory.bytes) run)
+  runs words c started ran fresh end memory' e f g h r q =
+      let begun : fresh ≡ pipe_start s words c start = h ∙ ap (λ (x : ℕ × Pipeline). x.1) g in
+      let run : pipe_answer (number_in ran) (record_in ran) (lent memory') [] [] ≡ edge_run s memory registers start codes budget = cc in
+      (q ∙ ap (λ (o : PipeAnswer). o.pipeline) run, ap (λ (o : PipeAnswer). o.memory.bytes) run)
 
 -- THE REPLAY: refused, or run and written back
 module _ (block : ℕ) (words : Pipeline → List ℕ) (chosen : Bool) (s : Settings) (memory registers result : List ℕ) (start codes budget n : ℕ)

@@ -3,6 +3,7 @@ ghost use Rattle.std.specs.Prelude.{◌≡◌, length};
 ghost use Rattle.block.specs.Block.{with_words};
 ghost use Rattle.edge.specs.Edge.{edge_run};
 
+use answers::record_of;
 use clocked::{Pipeline, Settings};
 use machine::Codes;
 
@@ -20,16 +21,14 @@ pub fn replay(
         × (memory.new ≡ (edge_run settings memory.old registers.old start codes budget).memory.bytes)
         × (registers.new ≡ with_words result.registers registers.old 0) }
 {
-    let started = pipe::start(
+    let fresh = record_of(pipe::start(
         settings,
         memory.len(),
         block::read_registers(registers),
         Codes::from(codes),
         start,
-    );
-    let fresh = started.pipeline;
-    let answer = pipe::run_unlogged(fresh, memory, budget);
-    let end = answer.pipeline;
+    ));
+    let end = record_of(pipe::run_unlogged(fresh, memory, budget));
     replay_ends::write_registers(registers, end);
     end
 }

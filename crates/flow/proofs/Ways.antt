@@ -27,21 +27,11 @@ use Rattle.flow.specs.declared.Signals.{Signals}
 use Rattle.flow.specs.Moving.{ahead_of, signals_with, signals_by, signals_of, fetched_in, decoded_in, shifted_of, flow_after}
 use Rattle.flow.proofs.Sources.{targets_stay, written_is, waits_is, decoded_is}
 
-pub fetched_now_lem : (b : Bool) (m : StageM) (w : StageW) (f : ℕ) (bytes : Memory) (a : ℕ) (i : Instruction) → a ≡ mended_by b m (returned_to w f) → i ≡ fetch bytes a
-    → i ≡ fetch bytes (mended_by b m (returned_to w f))
-fetched_now_lem b m w f bytes a i p q = cc
-
 -- by what is carried of M
 fetched_is : (g : Core) (b : Bool) (m : StageM) (w : StageW) (f : ℕ) (bytes : Memory) (i : Instruction) → b ≡ wrong g m
     → i ≡ fetch bytes (mended_by b m (returned_to w f)) → i ≡ fetched_in g m w f bytes
 unfolding fetched_in
 fetched_is g b m w f bytes i p q = cc (mended_by_lem g m (returned_to w f))
-
-pub signals_are : (g : Core) (s : Sources) (t : Targets) (d : StageD) (e : StageE) (m x : StageM) (y : StageW) (r : ℕ) (a b c f v : Bool)
-    → r ≡ awaited_by g d s.a → a ≡ (meets t.loaded r || meets t.loaded s.b) → b ≡ wrong g x → c ≡ (ret_in_d d || (ret_in_e e || ret_in_m m)) → f ≡ bad_in_w y → v ≡ patched_in_w y
-    → record { waits = a; mispredicts = b; returns = c; fails = f; cancels = v } ≡ signals_by g s t d e m x y
-unfolding signals_by signals_with
-signals_are g s t d e m x y r a b c f v o p q u h k = cc
 
 -- with D's sources and the targets of what stood in E, the code's signals are document 01's
 signals_same : (g : Core) (d : StageD) (e : StageE) (k : Codes) (m : StageM) (y : StageW)

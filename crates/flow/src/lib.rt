@@ -50,6 +50,7 @@ pub struct Signals {
     pub cancels: bool,
 }
 
+#[tactic(auto, unfolding(crate::specs::Moving::signals_by, crate::specs::Moving::signals_with))]
 fn signals_now(
     settings: Settings,
     sources: Sources,
@@ -86,6 +87,7 @@ fn fetch_now(
 }
 
 // W writes its registers before decode reads them, so that nothing of W's has to be forwarded.
+#[tactic(auto, using(crate::proofs::Ways::registers_are, crate::proofs::Ways::decoded_now))]
 fn write_and_decode(
     d: StageD,
     sources: Sources,

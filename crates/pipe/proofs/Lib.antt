@@ -1,4 +1,3 @@
-pub mod Ways
 pub mod Clocks
 pub mod Runs
 pub mod Entries

@@ -10,19 +10,14 @@ ghost use Rattle.machine.specs.Memory.{lent};
 ghost use Rattle.clocked.specs.declared.Pipeline.{Pipeline as PipelineOf};
 ghost use Rattle.clocked.specs.Prediction.{as_in_01};
 ghost use Rattle.clocked.specs.PipeRuns.{pipe_started, pipe_answer, pipe_run, pipe_run_unlogged, pipe_clock};
+ghost use Rattle.answers.specs.Numbers.{number_in, record_in};
 ghost use Rattle.pipe.specs.Parts.{answer_by};
 
 use crate::refusing::{refusal, start_refusal};
 use crate::running::looped;
-use clocked::{Kept, Kinds, Pipeline, Settings, StageD, StageE, StageM, StageW};
-use machine::{Blame, Codes, Fault, REGISTERS, Status, Window};
-
-// Document 01's number, 0 or that of a refusal, and the record.
-#[derive(Clone, Copy)]
-pub struct Answer {
-    pub number: u64,
-    pub pipeline: Pipeline,
-}
+use answers::{Refused, unless_refused};
+use clocked::{Kinds, Pipeline, Settings};
+use machine::{Blame, Codes, REGISTERS, Status};
 
 // Document 01's own settings.
 pub fn as_in_01() -> Settings
@@ -35,15 +30,16 @@ pub fn as_in_01() -> Settings
     }
 }
 
-// A fresh start in memory of that size.
+// A fresh start in memory of that size; refused, it hands back the record that was asked for.
+#[tactic(auto, unfolding(clocked::specs::PipeRuns::pipe_started, clocked::specs::Pipeline::pipe_start, clocked::specs::Charges::no_kinds, machine::specs::Fetch::no_blame))]
 pub fn start(
     settings: Settings,
     size: usize,
     registers: [u64; REGISTERS],
     codes: Codes,
     address: u64,
-) -> Answer
-    ensures { ◌≡◌ {A = ℕ × PipelineOf} (result.number, result.pipeline) (pipe_started settings size registers codes address) }
+) -> Result<Pipeline, Refused<Pipeline>>
+    ensures { ◌≡◌ {A = ℕ × PipelineOf} (number_in result, record_in result) (pipe_started settings size registers codes address) }
 {
     let fresh = Pipeline {
         settings,
@@ -70,14 +66,10 @@ pub fn start(
             address: 0,
         },
     };
-    Answer {
-        number: start_refusal(settings, size, address),
-        pipeline: fresh,
-    }
+    unless_refused(start_refusal(settings, size, address), fresh)
 }
 
 // What the entries share: short says that a lent log is shorter than the budget, and empty logs mean none.
-#[tactic(auto, using(crate::proofs::Entries::refused))]
 fn perform(
     pipeline: Pipeline,
     memory: &mut [u8],
@@ -85,19 +77,13 @@ fn perform(
     short: bool,
     addresses: &mut [u64],
     cycles: &mut [u64],
-) -> Answer
-    ensures { pipe_answer result.number result.pipeline (lent memory.new) addresses.new cycles.new
+) -> Result<Pipeline, Refused<Pipeline>>
+    ensures { pipe_answer (number_in result) (record_in result) (lent memory.new) addresses.new cycles.new
         ≡ answer_by short pipeline (lent memory.old) budget addresses.old cycles.old }
 {
-    let number = refusal(pipeline, memory.len(), budget, short);
-    if number != 0 {
-        return Answer { number, pipeline };
-    }
-    let after = looped(pipeline, memory, budget, addresses, cycles);
-    Answer {
-        number: 0,
-        pipeline: after,
-    }
+    let refused = refusal(pipeline, memory.len(), budget, short);
+    let pipeline = unless_refused(refused, pipeline)?;
+    Ok(looped(pipeline, memory, budget, addresses, cycles))
 }
 
 // A run with both logs.
@@ -107,8 +93,8 @@ pub fn run(
     budget: u64,
     addresses: &mut [u64],
     cycles: &mut [u64],
-) -> Answer
-    ensures { pipe_answer result.number result.pipeline (lent memory.new) addresses.new cycles.new
+) -> Result<Pipeline, Refused<Pipeline>>
+    ensures { pipe_answer (number_in result) (record_in result) (lent memory.new) addresses.new cycles.new
         ≡ pipe_run pipeline (lent memory.old) budget addresses.old cycles.old }
 {
     let short = ((addresses.len() as u64) < budget) | ((cycles.len() as u64) < budget);
@@ -116,8 +102,12 @@ pub fn run(
 }
 
 // A run without logs.
-pub fn run_unlogged(pipeline: Pipeline, memory: &mut [u8], budget: u64) -> Answer
-    ensures { pipe_answer result.number result.pipeline (lent memory.new) [] []
+pub fn run_unlogged(
+    pipeline: Pipeline,
+    memory: &mut [u8],
+    budget: u64,
+) -> Result<Pipeline, Refused<Pipeline>>
+    ensures { pipe_answer (number_in result) (record_in result) (lent memory.new) [] []
         ≡ pipe_run_unlogged pipeline (lent memory.old) budget }
 {
     let mut addresses = [0u64; 1];
@@ -133,8 +123,8 @@ pub fn run_unlogged(pipeline: Pipeline, memory: &mut [u8], budget: u64) -> Answe
 }
 
 // A clock is a run of 1 without logs.
-pub fn clock(pipeline: Pipeline, memory: &mut [u8]) -> Answer
-    ensures { pipe_answer result.number result.pipeline (lent memory.new) [] [] ≡ pipe_clock pipeline (lent memory.old) }
+pub fn clock(pipeline: Pipeline, memory: &mut [u8]) -> Result<Pipeline, Refused<Pipeline>>
+    ensures { pipe_answer (number_in result) (record_in result) (lent memory.new) [] [] ≡ pipe_clock pipeline (lent memory.old) }
 {
     run_unlogged(pipeline, memory, 1)
 }

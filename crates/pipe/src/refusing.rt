@@ -1,15 +1,17 @@
 // The refusals, of which the lowest number wins.
 ghost use Rattle.std.specs.Prelude.{◌≡◌};
-ghost use Rattle.clocked.specs.PipeRuns.{instruction_refused, refused_in_d, refused_in_e, refused_in_m, refused_in_w, refused_kept};
+ghost use Rattle.clocked.specs.PipeRuns.{instruction_refused, refused_in};
 ghost use Rattle.clocked.specs.PipeRuns.{counts_refused, settings_refused, record_refused, pipe_start_refusal};
+ghost use Rattle.answers.specs.Numbers.{number_of};
 ghost use Rattle.pipe.specs.Parts.{refusal_by};
 
-use answers::{budget_refused, size_refused, start_refused, window_refused};
-use clocked::{Kept, LAST_RULE, PIPE_LIMIT, Pipeline, Settings, StageD, StageE, StageM, StageW};
+use answers::{Refusal, budget_refused, size_refused, start_refused, window_refused};
+use clocked::{Carries, LAST_RULE, PIPE_LIMIT, Pipeline, Settings};
 use lookup::functions_of;
 use machine::{CMOV, Instruction, JUMP, NONE, OPERATION};
 
 // A register over 15, a code without functions, a move, jump or OPq function that the table has not.
+#[tactic(auto, unfolding(clocked::specs::PipeRuns::instruction_refused, machine::specs::Table::is))]
 fn instruction_refused(i: Instruction) -> bool
     ensures { result ≡ instruction_refused i }
 {
@@ -18,64 +20,15 @@ fn instruction_refused(i: Instruction) -> bool
     (NONE < i.ra) | ((NONE < i.rb) | ((functions == 0) | (tested & (functions <= i.function))))
 }
 
-fn refused_in_d(d: StageD) -> bool
-    ensures { result ≡ refused_in_d d }
+#[tactic(auto, unfolding(clocked::specs::PipeRuns::refused_in))]
+fn refused_in<T: Carries>(stage: Option<T>) -> bool
+    ensures { result ≡ refused_in T.instruction_of stage }
 {
-    match d {
-        None => false,
-        Some(i) => instruction_refused(i),
-    }
-}
-
-fn refused_in_e(e: StageE) -> bool
-    ensures { result ≡ refused_in_e e }
-{
-    match e {
-        None => false,
-        Some(x) => {
-            let i = x.instruction;
-            instruction_refused(i)
-        }
-    }
-}
-
-fn refused_in_m(m: StageM) -> bool
-    ensures { result ≡ refused_in_m m }
-{
-    match m {
-        None => false,
-        Some(x) => {
-            let i = x.instruction;
-            instruction_refused(i)
-        }
-    }
-}
-
-fn refused_in_w(w: StageW) -> bool
-    ensures { result ≡ refused_in_w w }
-{
-    match w {
-        None => false,
-        Some(x) => {
-            let i = x.instruction;
-            instruction_refused(i)
-        }
-    }
-}
-
-fn refused_kept(kept: Kept) -> bool
-    ensures { result ≡ refused_kept kept }
-{
-    match kept {
-        None => false,
-        Some(k) => {
-            let i = k.instruction;
-            instruction_refused(i)
-        }
-    }
+    stage.is_some_and(|x| instruction_refused(x.instruction()))
 }
 
 // Retired or a kind's count above cycles.
+#[tactic(auto, unfolding(clocked::specs::PipeRuns::counts_refused))]
 fn counts_refused(pipeline: Pipeline) -> bool
     ensures { result ≡ counts_refused pipeline }
 {
@@ -87,62 +40,57 @@ fn counts_refused(pipeline: Pipeline) -> bool
                 | ((cycles < kinds.returned) | (cycles < kinds.patched))))
 }
 
+#[tactic(auto, unfolding(clocked::specs::PipeRuns::settings_refused))]
 fn settings_refused(settings: Settings) -> bool
     ensures { result ≡ settings_refused settings }
 {
     LAST_RULE < settings.rule
 }
 
-fn record_refused(pipeline: Pipeline) -> bool
-    ensures { result ≡ record_refused pipeline }
+#[tactic(auto, unfolding(clocked::specs::PipeRuns::record_refused, clocked::specs::PipeRuns::refused_in_d, clocked::specs::PipeRuns::refused_in_e, clocked::specs::PipeRuns::refused_in_m, clocked::specs::PipeRuns::refused_in_w, clocked::specs::PipeRuns::refused_kept))]
+fn record_refused(p: Pipeline) -> bool
+    ensures { result ≡ record_refused p }
 {
-    let settings = pipeline.settings;
-    let d = pipeline.d;
-    let e = pipeline.e;
-    let m = pipeline.m;
-    let w = pipeline.w;
-    let kept = pipeline.kept;
-    settings_refused(settings)
-        | (refused_in_d(d)
-            | (refused_in_e(e)
-                | (refused_in_m(m)
-                    | (refused_in_w(w) | (refused_kept(kept) | counts_refused(pipeline))))))
+    settings_refused(p.settings)
+        | (refused_in(p.d)
+            | (refused_in(p.e)
+                | (refused_in(p.m) | (refused_in(p.w) | (refused_in(p.kept) | counts_refused(p))))))
 }
 
-// The lowest refusal of a fresh start, or 0.
-pub fn start_refusal(settings: Settings, size: usize, address: u64) -> u64
-    ensures { result ≡ pipe_start_refusal settings size address }
+// The lowest refusal of a fresh start.
+#[tactic(auto, unfolding(clocked::specs::PipeRuns::pipe_start_refusal, machine::specs::Runs::lowest))]
+pub fn start_refusal(settings: Settings, size: usize, address: u64) -> Result<(), Refusal>
+    ensures { number_of result ≡ pipe_start_refusal settings size address }
 {
     if size_refused(size) {
-        return 1;
+        return Err(Refusal::MemorySize);
     }
-    let window = settings.window;
-    if settings_refused(settings) | window_refused(window, size) {
-        return 5;
+    if settings_refused(settings) | window_refused(settings.window, size) {
+        return Err(Refusal::BadRecord);
     }
     if start_refused(size, address) {
-        return 6;
+        return Err(Refusal::StartOutside);
     }
-    0
+    Ok(())
 }
 
-// 0, or the number of the refusal; short says that a lent log is shorter than the budget.
-pub fn refusal(pipeline: Pipeline, size: usize, budget: u64, short: bool) -> u64
-    ensures { result ≡ refusal_by short pipeline size budget }
+// The lowest refusal of a run; short says that a lent log is shorter than the budget.
+#[tactic(auto, unfolding(crate::specs::Parts::refusal_by, machine::specs::Runs::lowest))]
+pub fn refusal(pipeline: Pipeline, size: usize, budget: u64, short: bool) -> Result<(), Refusal>
+    ensures { number_of result ≡ refusal_by short pipeline size budget }
 {
     if size_refused(size) {
-        return 1;
+        return Err(Refusal::MemorySize);
     }
     if budget_refused(PIPE_LIMIT, pipeline.cycles, budget) {
-        return 3;
+        return Err(Refusal::Budget);
     }
     if short {
-        return 4;
+        return Err(Refusal::ShortBlock);
     }
     let settings = pipeline.settings;
-    let window = settings.window;
-    if record_refused(pipeline) | window_refused(window, size) {
-        return 5;
+    if record_refused(pipeline) | window_refused(settings.window, size) {
+        return Err(Refusal::BadRecord);
     }
-    0
+    Ok(())
 }

@@ -16,6 +16,7 @@ use stage::forwarding::{targets_m, targets_w};
 use stage::signals::{bad_in_w, wrong};
 
 // What a clock moves.
+#[tactic(auto, unfolding(crate::specs::Parts::flow_of, flow::specs::Moving::ahead_of))]
 fn flow_of(p: Pipeline) -> Flow
     ensures { result ≡ flow_of p }
 {
@@ -42,6 +43,7 @@ fn flow_of(p: Pipeline) -> Flow
 }
 
 // What a clock counts.
+#[tactic(auto, unfolding(crate::specs::Parts::tally_of))]
 fn tally_of(p: Pipeline) -> Tally
     ensures { result ≡ tally_of p }
 {
@@ -56,6 +58,7 @@ fn tally_of(p: Pipeline) -> Tally
     }
 }
 
+#[tactic(auto, unfolding(crate::specs::Parts::whole))]
 fn put_together(
     settings: Settings,
     flow: Flow,
@@ -93,6 +96,7 @@ fn put_together(
 }
 
 // What the instruction in W is blamed on, if it stops the machine.
+#[tactic(auto, unfolding(crate::specs::Parts::blame_in, machine::specs::Fetch::no_blame))]
 fn blame_in(settings: Settings, w: StageW, memory: &[u8]) -> Blame
     ensures { result ≡ blame_in w (through settings.window (lent memory.now)) }
 {
@@ -110,6 +114,7 @@ fn blame_in(settings: Settings, w: StageW, memory: &[u8]) -> Blame
 }
 
 // A retirement goes to its place in a log; a log that is not lent has none.
+#[tactic(auto, unfolding(crate::specs::Parts::noted))]
 fn note(retired: bool, place: u64, x: u64, log: &mut [u64])
     ensures { log.new ≡ noted retired place x log.old }
 {

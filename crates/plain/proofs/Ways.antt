@@ -1,18 +1,22 @@
 -- One law for each way out of a function, over variables for what its callees gave. Assumes nothing.
 use mathlib.Core.Path.{◌≡◌, refl, ap, sym, ◌∙◌}
-use mathlib.Core.Bool.{Bool, true, false, not}
+use mathlib.Core.Bool.{Bool, true, false, not, cond}
 use mathlib.Core.List.{List, [], ◌∷◌, ◌++◌}
 use Prim.Native.Nat.{ℕ, ◌+◌, ◌≤◌, ◌<◌}
 use native.Mathlib.Omega.{arith}
 use native.Mathlib.Numerals.{add-one}
-use borrow.Author.Tests.{lt-ltb, le-ltb, ne_eqb, not-true, not-false, ltb-false}
+use borrow.Author.Tests.{ne_eqb, ltb-false}
+use denote.Enum.Bare.{sameb}
+use Rattle.machine.specs.contracts.Status.{the_type}
+use Rattle.answers.specs.declared.Refused.{Refused}
+use Rattle.std.specs.Prelude.{Result}
+use Rattle.std.specs.Result.{IsErrAnd}
+use Rattle.answers.specs.Numbers.{refusal_number, number_in, record_in, handed_on}
 use lib.Dec.{eqb, ltb}
 use lib.ListN.{length, set, length-append}
 use Rattle.machine.specs.declared.Status.{Status}
-use Rattle.machine.specs.declared.Status.TheVariants.{Aok as aok}
-use Rattle.machine.specs.Types.{Window}
+use Rattle.machine.specs.declared.Status.TheVariants.{Aok as aok, Hlt as hlt, Adr as adr, Ins as ins}
 use Rattle.machine.specs.Types.{no_window}
-use Rattle.machine.specs.declared.Codes.{Codes}
 use Rattle.machine.specs.declared.Instruction.{Instruction}
 use Rattle.machine.specs.declared.Decoded.{Decoded}
 use Rattle.machine.specs.declared.Executed.{Executed}
@@ -20,58 +24,18 @@ use Rattle.machine.specs.declared.Accessed.{Accessed}
 use Rattle.machine.specs.declared.Blame.{Blame}
 use Rattle.machine.specs.declared.Machine.{Machine}
 use Rattle.machine.specs.Types.{is_bad}
-use Rattle.machine.specs.Memory.{Memory, size, through, value, written}
+use Rattle.machine.specs.Memory.{Memory, size, through, value}
 use Rattle.machine.specs.Fetch.{fetch, blame_of}
-use Rattle.machine.specs.Stages.{source_a, source_b, decode, execute, access, new_codes, new_memory, new_registers, next_address, result_target, loaded_target}
+use Rattle.machine.specs.Stages.{decode, execute, access, new_memory}
 use Rattle.machine.specs.Plain.{Plain, plain_of, is_stopped, fetched, decoded, executed, accessed, performed, stopped_by, step, steps}
-use Rattle.machine.specs.Runs.{laid, lowest, size_refused, budget_refused, log_refused, window_refused, plain_limit}
-use Rattle.machine.specs.Runs.{plain_refusal, plain_answer, plain_done, plain_by, plain_run, plain_step}
-use Rattle.plain.specs.Records.{with_register, after_performed, after_stop, RunsTo}
+use Rattle.machine.specs.Runs.{laid, lowest, size_refused, budget_refused, log_refused, plain_limit}
+use Rattle.machine.specs.Runs.{plain_refusal, PlainAnswer, plain_answer, plain_done, plain_by, plain_run, plain_step}
+use Rattle.plain.specs.Records.{after_performed, after_stop, RunsTo}
 use Rattle.answers.specs.Refusals.{failed}
-use Rattle.laws.specs.Tests.{neither, or_false}
+use Rattle.laws.specs.Tests.{neither}
 use Rattle.laws.specs.Window.{written_through}
-use Rattle.answers.specs.Logs.{laid_more, laid_length}
+use Rattle.answers.specs.Logs.{laid_more, laid_length, laid_none}
 use Rattle.plain.specs.Steps.{bare, behind, seen, step_bare, step_logs, step_counts, still_on}
-
-pub changed : (m : Machine) (q v : ℕ) → q < 15
-    → record {
-      registers = set m.registers q v;
-      codes = m.codes;
-      address = m.address;
-      status = m.status;
-      last = m.last;
-      count = m.count;
-      blame = m.blame;
-      window = m.window;
-    }
-    ≡ with_register m q v
-unfolding with_register written
-changed m q v h = cc (lt-ltb q 15 h)
-
-pub unchanged : (m : Machine) (q v : ℕ) → 15 ≤ q → m ≡ with_register m q v
-unfolding with_register written
-unchanged m q v h = rw (le-ltb q 15 h)
-
-pub decoded_is : (m : Machine) (i : Instruction) (p q a b : ℕ) → p ≡ source_a i → a ≡ value m.registers p → q ≡ source_b i → b ≡ value m.registers q
-    → record { instruction = i; a = a; b = b } ≡ decode i (value m.registers)
-unfolding decode
-decoded_is m i p q a b e f g h = cc
-
-pub performed_is : (m one both : Machine) (x : Decoded) (w : Accessed) (t u a : ℕ) (c : Codes) → t ≡ result_target w.instruction w.holds
-    → one ≡ with_register m t w.result → u ≡ loaded_target w.instruction → both ≡ with_register one u w.word → c ≡ new_codes x m.codes
-    → a ≡ next_address w
-    → record {
-      registers = both.registers;
-      codes = c;
-      address = a;
-      status = aok;
-      last = m.address;
-      count = m.count + 1;
-      blame = m.blame;
-      window = m.window;
-    } ≡ after_performed m x w
-unfolding after_performed with_register new_registers
-performed_is m one both x w t u a c e f g h k l = cc
 
 -- ONE INSTRUCTION
 module _ (m : Machine) (mem : Memory) (i : Instruction) (x : Decoded) (e : Executed) (w : Accessed) (b : Bool)
@@ -88,10 +52,13 @@ module _ (m : Machine) (mem : Memory) (i : Instruction) (x : Decoded) (e : Execu
   performs r mem' t p q = (cc, cc (written_through m.window e mem mem' p))
 
 -- THE LOOP
-pub runs_on : (b : Bool) (x : Status) → b ≡ is_bad x → not b ≡ true → is_bad x ≡ false
-runs_on b x e t =
-    let h = not-true b t in
-    cc
+-- a status told from AOK by the derived test
+pub bad_by_test : (t : Status) (x b : Bool) → x ≡ not (sameb the_type t aok) → x ≡ b → is_bad t ≡ b
+unfolding is_bad
+bad_by_test aok x b e f = sym e ∙ f
+bad_by_test hlt x b e f = sym e ∙ f
+bad_by_test adr x b e f = sym e ∙ f
+bad_by_test ins x b e f = sym e ∙ f
 
 -- n instructions have been performed and logged, and none but the budget's are left
 pub record Goes (k : Machine) (m : Memory) (budget : ℕ) (l : List ℕ) (s : Machine) (m' : Memory) (l' : List ℕ) (n : ℕ) : Type 0 where
@@ -134,12 +101,11 @@ module _ (k : Machine) (m : Memory) (budget : ℕ) (l : List ℕ) (s : Machine) 
   unfolding now
   next_log h = step_logs now (runs_now h) ∙ ap (λ (x : Machine). now.log ++ x.address ∷ []) (sym g.so_far.machine_is)
 
-  pub goes_on_lem : (b : Bool) (s₂ : Machine) (m₂ : Memory) (l₂ : List ℕ) → n < budget → b ≡ is_bad s.status → not b ≡ true → size m₂ ≡ size m₁
+  pub goes_on_lem : (s₂ : Machine) (m₂ : Memory) (l₂ : List ℕ) → n < budget → is_bad s.status ≡ false → size m₂ ≡ size m₁
       → l₂ ≡ set l₁ n s.address
       → (s₂ ≡ (step (plain_of s m₁)).machine) × (m₂ ≡ through no_window (step (plain_of s m₁)).memory) → Goes k m budget l s₂ m₂ l₂ (n + 1)
   unfolding now steps
-  goes_on_lem b s₂ m₂ l₂ lt hb t long hl hs =
-      let run = runs_on b s.status hb t in
+  goes_on_lem s₂ m₂ l₂ lt run long hl hs =
       let same : steps (plain_of k m) (n + 1) ≡ step now = ap (steps (plain_of k m)) (add-one n) in
       let log_is : l₂ ≡ laid (step now).log l =
       hl ∙ (ap (λ (x : List ℕ). set x n s.address) g.so_far.log_is
@@ -161,10 +127,9 @@ module _ (k : Machine) (m : Memory) (budget : ℕ) (l : List ℕ) (s : Machine) 
         log_long = ap length log_is ∙ laid_length (step now).log l;
       }
 
-  pub goes_over : (b : Bool) → b ≡ is_bad s.status → not b ≡ false → RunsTo k m budget l s m₁ l₁
+  pub goes_over : is_bad s.status ≡ true → RunsTo k m budget l s m₁ l₁
   unfolding now is_stopped
-  goes_over b hb t =
-      let over = not-false b t in
+  goes_over over =
       let stopped : is_stopped now ≡ true = cc g.so_far.machine_is in
       let same = still_on (plain_of k m) n budget g.within stopped in
       record {
@@ -178,88 +143,40 @@ module _ (k : Machine) (m : Memory) (budget : ℕ) (l : List ℕ) (s : Machine) 
       let e : n ≡ budget = omega (arith, g.within) in
       rw e at g.so_far
 
--- REFUSALS
-module _ (v : Window) (size count budget : ℕ) (short x : Bool) (hx : x ≡ size_refused size) where
-  pub refused_1 : x ≡ true → 1 ≡ lowest ((1, size_refused size) ∷ (3, budget_refused plain_limit count budget) ∷ (4, short) ∷ (5, window_refused v size) ∷ [])
-  unfolding lowest
-  refused_1 t = cc
+-- THE ENTRIES
+pub refuses : (k : Machine) (m : Memory) (budget : ℕ) (log : List ℕ) (o : Result Machine (Refused Machine)) (e : Refused Machine) (n : ℕ)
+    → IsErrAnd o (λ x. x ≡ e) → refusal_number e.why ≡ n → e.given ≡ k → n ≡ plain_refusal k.window (size m) k.count budget (length log ∷ [])
+    → plain_answer (number_in o) (record_in o) m log ≡ plain_run k m budget log
+unfolding plain_run plain_by
+refuses k m budget log o e n r p q h =
+    let s = handed_on o e r in
+    cc (s.0, s.1, ne_eqb (number_in o) 0 s.2, p, q, h)
 
-  module _ (y : Bool) (hy : y ≡ budget_refused plain_limit count budget) (f : x ≡ false) where
-    pub refused_3 : y ≡ true → 3 ≡ lowest ((1, size_refused size) ∷ (3, budget_refused plain_limit count budget) ∷ (4, short) ∷ (5, window_refused v size) ∷ [])
-    unfolding lowest
-    refused_3 u = cc
+-- by what the check of the arguments gave: its number and the record
+module _ (k : Machine) (m : Memory) (budget : ℕ) (log : List ℕ) (k' : Machine) (n : ℕ) (same : k' ≡ k) (passed : 0 ≡ n)
+    (h : n ≡ plain_refusal k.window (size m) k.count budget (length log ∷ [])) where
+  pub within_limit : k'.count + budget ≤ plain_limit
+  unfolding plain_refusal lowest budget_refused
+  within_limit =
+      let p = failed (size_refused (size m)) 0 _ (sym h ∙ sym passed) in
+      let q = failed (budget_refused plain_limit k.count budget) 2 _ p.1 in
+      let r = ltb-false plain_limit (k.count + budget) (neither (eqb budget 0) (ltb plain_limit (k.count + budget)) q.0).1 in
+      rw same r
 
-    pub refused_4 : y ≡ false → short ≡ true → 4 ≡ lowest ((1, size_refused size) ∷ (3, budget_refused plain_limit count budget) ∷ (4, short) ∷ (5, window_refused v size) ∷ [])
-    unfolding lowest
-    refused_4 u t = cc
+  pub ends : (r : Machine) (m' : Memory) (l' : List ℕ) → RunsTo k' m budget log r m' l' → plain_answer 0 r m' l' ≡ plain_run k m budget log
+  unfolding plain_run plain_by plain_done
+  ends r m' l' e = cc (same, passed, h, e.machine_is, e.memory_is, e.log_is)
 
-    pub refused_5 : y ≡ false → short ≡ false → (z : Bool) → z ≡ window_refused v size → z ≡ true
-        → 5 ≡ lowest ((1, size_refused size) ∷ (3, budget_refused plain_limit count budget) ∷ (4, short) ∷ (5, window_refused v size) ∷ [])
-    unfolding lowest
-    refused_5 u t z hz e = cc
+-- a run of 1 with a log of 1 is a step, but for what it logs
+pub one_step : (k : Machine) (m : Memory) (n : ℕ) (r : Machine) (m' : Memory) (x : ℕ) (l' : List ℕ)
+    → plain_answer n r m' l' ≡ plain_run k m 1 (x ∷ []) → plain_answer n r m' [] ≡ plain_step k m
+unfolding plain_run plain_step plain_by plain_done plain_refusal log_refused
+one_step k m n r m' x l' e = ap bare e ∙ go (eqb (plain_refusal k.window (size m) k.count 1 []) 0)
+  where
+    bare : PlainAnswer → PlainAnswer
+    bare o = plain_answer o.number o.machine o.memory []
 
-    pub refused_0 : y ≡ false → short ≡ false → (z : Bool) → z ≡ window_refused v size → z ≡ false
-        → 0 ≡ lowest ((1, size_refused size) ∷ (3, budget_refused plain_limit count budget) ∷ (4, short) ∷ (5, window_refused v size) ∷ [])
-    unfolding lowest
-    refused_0 u t z hz e = cc
-
--- THE ENTRIES, by the lengths of the logs that are lent
-pub one_log : (v : Window) (size count budget long n : ℕ) → n ≡ lowest ((1, size_refused size) ∷ (3, budget_refused plain_limit count budget) ∷ (4, ltb long budget) ∷ (5, window_refused v size) ∷ [])
-    → n ≡ plain_refusal v size count budget (long ∷ [])
-unfolding plain_refusal log_refused
-one_log v size count budget long n h = rw (or_false (ltb long budget)) h
-
-pub no_log : (v : Window) (size count budget n : ℕ) → n ≡ lowest ((1, size_refused size) ∷ (3, budget_refused plain_limit count budget) ∷ (4, false) ∷ (5, window_refused v size) ∷ [])
-    → n ≡ plain_refusal v size count budget []
-unfolding plain_refusal log_refused
-no_log v size count budget n h = h
-
-laid_none : (es : List ℕ) → laid es [] ≡ []
-unfolding laid
-laid_none [] = refl
-laid_none (e ∷ es) = refl
-
-pub within_limit : (v : Window) (size count budget n : ℕ) (short : Bool) → n ≡ lowest ((1, size_refused size) ∷ (3, budget_refused plain_limit count budget) ∷ (4, short) ∷ (5, window_refused v size) ∷ [])
-    → n ≡ 0 → count + budget ≤ plain_limit
-unfolding lowest budget_refused
-within_limit v size count budget n short h z =
-    let p = failed (size_refused size) 0 _ (sym h ∙ z) in
-    let q = failed (budget_refused plain_limit count budget) 2 _ p.1 in
-    ltb-false plain_limit (count + budget) (neither (eqb budget 0) (ltb plain_limit (count + budget)) q.0).1
-
-module _ (logs : List ℕ) (k : Machine) (m : Memory) (budget : ℕ) (log : List ℕ) (n : ℕ) (h : n ≡ plain_refusal k.window (size m) k.count budget logs) where
-  pub refuses : (n ≡ 0 → ⊥) → plain_answer n k m log ≡ plain_by logs k m budget log
-  unfolding plain_by
-  refuses z = cc (ne_eqb n 0 z)
-
-  pub ends : n ≡ 0 → (r : Machine) (m' : Memory) (l' : List ℕ) → RunsTo k m budget log r m' l' → plain_answer 0 r m' l' ≡ plain_by logs k m budget log
-  unfolding plain_by plain_done
-  ends z r m' l' e = cc (z, h, e.machine_is, e.memory_is, e.log_is)
-
-pub run_refuses : (k : Machine) (m : Memory) (budget : ℕ) (log : List ℕ) (n : ℕ)
-    → n ≡ lowest ((1, size_refused (size m)) ∷ (3, budget_refused plain_limit k.count budget) ∷ (4, ltb (length log) budget)
-    ∷ (5, window_refused k.window (size m)) ∷ []) → (n ≡ 0 → ⊥)
-    → plain_answer n k m log ≡ plain_run k m budget log
-unfolding plain_run
-run_refuses k m budget log n h z = refuses (length log ∷ []) k m budget log n (one_log k.window (size m) k.count budget (length log) n h) z
-
-pub run_ends : (k : Machine) (m : Memory) (budget : ℕ) (log : List ℕ) (n : ℕ)
-    → n ≡ lowest ((1, size_refused (size m)) ∷ (3, budget_refused plain_limit k.count budget) ∷ (4, ltb (length log) budget)
-    ∷ (5, window_refused k.window (size m)) ∷ []) → n ≡ 0
-    → (r : Machine) (m' : Memory) (l' : List ℕ) → RunsTo k m budget log r m' l' → plain_answer 0 r m' l' ≡ plain_run k m budget log
-unfolding plain_run
-run_ends k m budget log n h z = ends (length log ∷ []) k m budget log n (one_log k.window (size m) k.count budget (length log) n h) z
-
-pub step_refuses : (k : Machine) (m : Memory) (n : ℕ)
-    → n ≡ lowest ((1, size_refused (size m)) ∷ (3, budget_refused plain_limit k.count 1) ∷ (4, false) ∷ (5, window_refused k.window (size m)) ∷ []) → (n ≡ 0 → ⊥)
-    → plain_answer n k m [] ≡ plain_step k m
-unfolding plain_step
-step_refuses k m n h z = refuses [] k m 1 [] n (no_log k.window (size m) k.count 1 n h) z
-
-pub step_ends : (k : Machine) (m : Memory) (n : ℕ)
-    → n ≡ lowest ((1, size_refused (size m)) ∷ (3, budget_refused plain_limit k.count 1) ∷ (4, false) ∷ (5, window_refused k.window (size m)) ∷ []) → n ≡ 0
-    → (own : List ℕ) (r : Machine) (m' : Memory) (own' : List ℕ) → RunsTo k m 1 own r m' own' → plain_answer 0 r m' [] ≡ plain_step k m
-unfolding plain_step
-step_ends k m n h z own r m' own' e =
-    ends [] k m 1 [] n (no_log k.window (size m) k.count 1 n h) z r m' []
-    (record { machine_is = e.machine_is; memory_is = e.memory_is; log_is = sym (laid_none _) })
+    go : (b : Bool) → bare (cond b (plain_done (steps (plain_of k m) 1) (x ∷ [])) (plain_answer (plain_refusal k.window (size m) k.count 1 []) k m (x ∷ [])))
+        ≡ cond b (plain_done (steps (plain_of k m) 1) []) (plain_answer (plain_refusal k.window (size m) k.count 1 []) k m [])
+    go true = simp laid_none
+    go false = refl

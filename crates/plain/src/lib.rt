@@ -9,34 +9,29 @@ ghost use Rattle.machine.specs.Types.{is_bad};
 ghost use Rattle.machine.specs.Memory.{lent, through, value as value_of};
 ghost use Rattle.machine.specs.Stages.{decode};
 ghost use Rattle.machine.specs.Plain.{plain_of, step as step_of};
-ghost use Rattle.machine.specs.Runs.{lowest, size_refused, budget_refused, window_refused, plain_started, plain_limit, plain_answer, plain_run, plain_step};
+ghost use Rattle.machine.specs.Runs.{plain_started, plain_limit, plain_refusal, plain_answer, plain_run, plain_step};
+ghost use Rattle.answers.specs.Numbers.{number_of, number_in, record_in};
 ghost use Rattle.plain.specs.Records.{with_register, after_performed, after_stop, RunsTo};
 
+use answers::{Refusal, Refused, unless_refused};
 use fetching::{blame_of, instruction_at};
 use isa::accessing::{access, update};
-use isa::decoding::{is_bad, loaded_target, result_target, source_a, source_b, value};
+use isa::decoding::{is_bad, loaded_target, result_target, source_a, source_b, value, write};
 use isa::executing::{execute, new_codes, next_address};
 use machine::{
-    Accessed, Blame, Codes, Decoded, Fault, Instruction, Machine, NONE, PLAIN_LIMIT, REGISTERS,
-    Status, Window,
+    Accessed, Blame, Codes, Decoded, Instruction, Machine, PLAIN_LIMIT, REGISTERS, Status, Window,
 };
 
-// What an entry answers: document 01's number, and the record.
-#[derive(Clone, Copy)]
-pub struct Answer {
-    pub number: u64,
-    pub machine: Machine,
-}
-
-// A fresh start in memory of that size.
+// A fresh start in memory of that size; refused, it hands back the record that was asked for.
+#[tactic(auto, unfolding(machine::specs::Runs::plain_started, machine::specs::Plain::plain_start, machine::specs::Fetch::no_blame))]
 pub fn start(
     window: Window,
     size: usize,
     registers: [u64; REGISTERS],
     codes: Codes,
     address: u64,
-) -> Answer
-    ensures { ◌≡◌ {A = ℕ × MachineOf} (result.number, result.machine) (plain_started window size registers codes address) }
+) -> Result<Machine, Refused<Machine>>
+    ensures { ◌≡◌ {A = ℕ × MachineOf} (number_in result, record_in result) (plain_started window size registers codes address) }
 {
     let fresh = Machine {
         registers,
@@ -51,87 +46,63 @@ pub fn start(
         },
         window,
     };
-    Answer {
-        number: answers::start_refusal(window, size, address),
-        machine: fresh,
-    }
+    unless_refused(answers::start_refusal(window, size, address), fresh)
 }
 
-fn is_stopped(m: Machine) -> bool
-    ensures { result ≡ is_bad m.status }
-{
-    let status = m.status;
-    is_bad(status)
-}
-
-// The record with one register changed: 15 changes nothing.
+// The record with one register changed, as document 01 has it: 15 changes nothing.
+#[tactic(auto, unfolding(crate::specs::Records::with_register))]
 fn with_register(m: Machine, q: u8, v: u64) -> Machine
     ensures { result ≡ with_register m q v }
 {
     let mut next = m;
-    if q < NONE {
-        let k = q as usize;
-        next.registers[k] = v;
-    }
+    write(&mut next.registers, q, v);
     next
 }
 
+#[tactic(auto, unfolding(machine::specs::Stages::decode))]
 fn decoded(m: Machine, i: Instruction) -> Decoded
     ensures { result ≡ decode i (value_of m.registers) }
 {
-    let registers = m.registers;
     Decoded {
         instruction: i,
-        a: value(&registers, source_a(i)),
-        b: value(&registers, source_b(i)),
+        a: value(&m.registers, source_a(i)),
+        b: value(&m.registers, source_b(i)),
     }
 }
 
 // The record after an instruction with AOK: the result is written first, and then the loaded word.
+#[tactic(auto, unfolding(crate::specs::Records::after_performed, crate::specs::Records::with_register, machine::specs::Stages::new_registers))]
 fn after_performed(m: Machine, x: Decoded, w: Accessed) -> Machine
     requires { m.count < plain_limit }
     ensures { result ≡ after_performed m x w }
 {
     let i = w.instruction;
-    let codes = m.codes;
-    let blame = m.blame;
-    let window = m.window;
     let target = result_target(i, w.holds);
     let loaded = loaded_target(i);
     let one = with_register(m, target, w.result);
     let both = with_register(one, loaded, w.word);
-    let registers = both.registers;
-    let count = m.count + 1;
     Machine {
-        registers,
-        codes: new_codes(x, codes),
+        codes: new_codes(x, m.codes),
         address: next_address(w),
         status: Status::Aok,
         last: m.address,
-        count,
-        blame,
-        window,
+        count: m.count + 1,
+        ..both
     }
 }
 
 // The record after the stopping instruction.
+#[tactic(auto, unfolding(crate::specs::Records::after_stop))]
 fn after_stop(m: Machine, status: Status, blame: Blame) -> Machine
     requires { m.count < plain_limit }
     ensures { result ≡ after_stop m status blame }
 {
-    let registers = m.registers;
-    let codes = m.codes;
-    let count = m.count + 1;
-    let window = m.window;
     Machine {
-        registers,
-        codes,
-        address: m.address,
         status,
         last: m.address,
-        count,
+        count: m.count + 1,
         blame,
-        window,
+        ..m
     }
 }
 
@@ -141,90 +112,71 @@ fn advance(m: Machine, memory: &mut [u8]) -> Machine
     ensures { (result ≡ (step_of (plain_of m (lent memory.old))).machine)
         × (lent memory.new ≡ through no_window (step_of (plain_of m (lent memory.old))).memory) }
 {
-    let window = m.window;
-    let i = instruction_at(window, memory, m.address);
+    let i = instruction_at(m.window, memory, m.address);
     let x = decoded(m, i);
-    let codes = m.codes;
-    let e = execute(x, codes);
-    let w = access(e, window, memory);
-    let status = w.status;
-    if is_bad(status) {
-        return after_stop(m, status, blame_of(window, memory, i));
+    let e = execute(x, m.codes);
+    let w = access(e, m.window, memory);
+    if is_bad(w.status) {
+        return after_stop(m, w.status, blame_of(m.window, memory, i));
     }
     update(e, memory);
     after_performed(m, x, w)
 }
 
-// The loop of both entries.
+// One instruction after another, up to a stop.
 fn run_on(m: Machine, memory: &mut [u8], budget: u64, log: &mut [u64]) -> Machine
     requires { m.count + budget ≤ plain_limit }
     ensures { RunsTo m (lent memory.old) budget log.old result (lent memory.new) log.new }
 {
     let mut s = m;
-    let mut done: u64 = 0;
-    while done < budget && !is_stopped(s) {
+    for done in 0..budget {
+        if s.status != Status::Aok {
+            break;
+        }
         answers::note(log, done, s.address);
         s = advance(s, memory);
-        done += 1;
     }
     s
 }
 
-// The lowest refusal that applies, or 0.
-fn refusal(window: Window, size: usize, count: u64, budget: u64, short: bool) -> u64
-    ensures { result ≡ lowest ((1, size_refused size) ∷ (3, budget_refused plain_limit count budget) ∷ (4, short) ∷ (5, window_refused window size) ∷ []) }
+// The lowest refusal of a run.
+#[tactic(auto, unfolding(machine::specs::Runs::plain_refusal, machine::specs::Runs::lowest, machine::specs::Runs::log_refused))]
+fn refusal(m: Machine, size: usize, budget: u64, log: usize) -> Result<(), Refusal>
+    ensures { number_of result ≡ plain_refusal m.window size m.count budget (log ∷ []) }
 {
     if answers::size_refused(size) {
-        return 1;
+        return Err(Refusal::MemorySize);
     }
-    if answers::budget_refused(PLAIN_LIMIT, count, budget) {
-        return 3;
+    if answers::budget_refused(PLAIN_LIMIT, m.count, budget) {
+        return Err(Refusal::Budget);
     }
-    if short {
-        return 4;
+    if (log as u64) < budget {
+        return Err(Refusal::ShortBlock);
     }
-    if answers::window_refused(window, size) {
-        return 5;
+    if answers::window_refused(m.window, size) {
+        return Err(Refusal::BadRecord);
     }
-    0
+    Ok(())
 }
 
-// A run with an instruction budget and a lent log of addresses.
-pub fn run(machine: Machine, memory: &mut [u8], budget: u64, log: &mut [u64]) -> Answer
-    ensures { plain_answer result.number result.machine (lent memory.new) log.new
+// A run with an instruction budget and a lent log of addresses; refused, it hands the record back as it was.
+pub fn run(
+    machine: Machine,
+    memory: &mut [u8],
+    budget: u64,
+    log: &mut [u64],
+) -> Result<Machine, Refused<Machine>>
+    ensures { plain_answer (number_in result) (record_in result) (lent memory.new) log.new
         ≡ plain_run machine (lent memory.old) budget log.old }
 {
-    let window = machine.window;
-    let number = refusal(
-        window,
-        memory.len(),
-        machine.count,
-        budget,
-        (log.len() as u64) < budget,
-    );
-    if number != 0 {
-        return Answer { number, machine };
-    }
-    let end = run_on(machine, memory, budget, log);
-    Answer {
-        number: 0,
-        machine: end,
-    }
+    let refused = refusal(machine, memory.len(), budget, log.len());
+    let machine = unless_refused(refused, machine)?;
+    Ok(run_on(machine, memory, budget, log))
 }
 
-// A step is a run of 1 without a log.
-pub fn step(machine: Machine, memory: &mut [u8]) -> Answer
-    ensures { plain_answer result.number result.machine (lent memory.new) [] ≡ plain_step machine (lent memory.old) }
+// A step is a run of 1 without a log: it lends one of its own.
+pub fn step(machine: Machine, memory: &mut [u8]) -> Result<Machine, Refused<Machine>>
+    ensures { plain_answer (number_in result) (record_in result) (lent memory.new) [] ≡ plain_step machine (lent memory.old) }
 {
-    let window = machine.window;
-    let number = refusal(window, memory.len(), machine.count, 1, false);
-    if number != 0 {
-        return Answer { number, machine };
-    }
-    let mut own = [0u64; 1];
-    let end = run_on(machine, memory, 1, &mut own);
-    Answer {
-        number: 0,
-        machine: end,
-    }
+    run(machine, memory, 1, &mut [0u64; 1])
 }

@@ -25,6 +25,7 @@ pub struct Tally {
 }
 
 // Why an instruction is charged, by its predecessor.
+#[tactic(auto, unfolding(clocked::specs::Charges::reason_behind, clocked::specs::Prediction::load_use, machine::specs::Table::is))]
 fn reason_behind(settings: Settings, k: Retired, j: Instruction) -> Option<Reason>
     ensures { result ≡ reason_behind (core_of settings) k j }
 {
@@ -45,6 +46,7 @@ fn reason_behind(settings: Settings, k: Retired, j: Instruction) -> Option<Reaso
 }
 
 // With none kept the charge is 0.
+#[tactic(auto, unfolding(clocked::specs::Charges::reason_from))]
 pub fn reason_from(settings: Settings, kept: Kept, j: Instruction) -> Option<Reason>
     ensures { result ≡ reason_from (core_of settings) kept j }
 {
@@ -55,6 +57,7 @@ pub fn reason_from(settings: Settings, kept: Kept, j: Instruction) -> Option<Rea
 }
 
 // "The cycle counts kept by kind sum the charges."
+#[tactic(auto, unfolding(clocked::specs::Charges::counted))]
 fn count(kinds: Kinds, reason: Option<Reason>) -> Kinds
     requires { (kinds.loaduse < 2000000) × (kinds.mispredict < 2000000) × (kinds.returned < 2000000) × (kinds.patched < 2000000) }
     ensures { result ≡ counted_of kinds reason }
@@ -106,6 +109,7 @@ fn still_kept(kept: Kept) -> Kept
 }
 
 // What is kept is retired with AOK: a stop leaves it as it was.
+#[tactic(auto, unfolding(crate::specs::Retiring::kept_by, clocked::specs::Charges::retired_of))]
 fn kept_by(x: Accessed, kept: Kept) -> Kept
     ensures { result ≡ kept_by x kept }
 {
@@ -121,6 +125,7 @@ fn kept_by(x: Accessed, kept: Kept) -> Kept
     })
 }
 
+#[tactic(auto, unfolding(crate::specs::Retiring::retires))]
 pub fn retires(w: StageW) -> bool
     ensures { result ≡ retires_of w }
 {
@@ -131,6 +136,7 @@ pub fn retires(w: StageW) -> bool
 }
 
 // AOK, or why the instruction in W stops the machine.
+#[tactic(auto, unfolding(crate::specs::Retiring::status_after))]
 pub fn status_after(w: StageW) -> Status
     ensures { result ≡ status_after w }
 {
@@ -140,6 +146,7 @@ pub fn status_after(w: StageW) -> Status
     }
 }
 
+#[tactic(auto, unfolding(crate::specs::Retiring::tally_after, clocked::specs::Pipeline::last_after, clocked::specs::Pipeline::retired_after, clocked::specs::Pipeline::kinds_after, clocked::specs::Pipeline::kept_after, clocked::specs::Pipeline::bad_in_w, crate::specs::Retiring::kept_by))]
 pub fn counted(settings: Settings, t: Tally, w: StageW) -> Tally
     requires { Small 2000000 t }
     ensures { result ≡ tally_after (core_of settings) t w }

@@ -10,6 +10,7 @@ use isa::executing::{straight, turned};
 use machine::{Instruction, JUMP, RET};
 
 // The word that ret in W read, else the predicted address.
+#[tactic(auto, unfolding(clocked::specs::Pipeline::returned_to, machine::specs::Table::is))]
 fn returned_to(w: StageW, predicted: u64) -> u64
     ensures { result ≡ returned_to w predicted }
 {
@@ -27,6 +28,7 @@ fn returned_to(w: StageW, predicted: u64) -> u64
 }
 
 // The wrongly guessed jump in M goes before all else: wrong, found in E, says that M holds one.
+#[tactic(auto, unfolding(crate::specs::Addresses::mended_by))]
 fn mended(wrong: bool, m: StageM, otherwise: u64) -> u64
     ensures { result ≡ mended_by wrong m otherwise }
 {
@@ -50,6 +52,7 @@ pub fn fetch_address(wrong: bool, m: StageM, w: StageW, predicted: u64) -> u64
 }
 
 // Behind a store into the window fetch restarts at the instruction that follows the store.
+#[tactic(auto, unfolding(clocked::specs::Pipeline::restart))]
 pub fn restart(m: StageM, otherwise: u64) -> u64
     ensures { result ≡ restart_of m otherwise }
 {
@@ -62,6 +65,7 @@ pub fn restart(m: StageM, otherwise: u64) -> u64
     }
 }
 
+#[tactic(auto, unfolding(clocked::specs::Prediction::predicted_next, machine::specs::Table::is))]
 pub fn predicted_next(settings: Settings, i: Instruction) -> u64
     ensures { result ≡ predicted_next (core_of settings) i }
 {

@@ -22,6 +22,7 @@ pub struct Sources {
     pub b: u8,
 }
 
+#[tactic(auto, unfolding(crate::specs::Forwarding::sources_d))]
 pub fn sources_d(d: StageD) -> Sources
     ensures { result ≡ sources_d d }
 {
@@ -35,16 +36,19 @@ pub fn sources_d(d: StageD) -> Sources
 }
 
 // Of D's sources the one that may come late is not waited for.
+#[tactic(auto, unfolding(crate::specs::Forwarding::awaited_by))]
 pub fn awaited(settings: Settings, d: StageD, a: u8) -> u8
     ensures { result ≡ awaited_by (core_of settings) d a }
 {
-    match d {
-        None => a,
-        Some(i) => { if takes_late(settings, i) { NONE } else { a } }
+    if d.is_some_and(|i| takes_late(settings, i)) {
+        NONE
+    } else {
+        a
     }
 }
 
 // The same of an instruction.
+#[tactic(auto, unfolding(clocked::specs::Prediction::awaited_a))]
 pub fn awaited_a(settings: Settings, i: Instruction) -> u8
     ensures { result ≡ awaited_a (core_of settings) i }
 {
@@ -64,6 +68,7 @@ pub fn no_targets() -> Targets
     }
 }
 
+#[tactic(auto, unfolding(crate::specs::Forwarding::targets_of))]
 fn targets_of(i: Instruction, holds: bool) -> Targets
     ensures { result ≡ targets_of i holds }
 {
@@ -74,6 +79,7 @@ fn targets_of(i: Instruction, holds: bool) -> Targets
 }
 
 // Of M's instruction, or of E's after execution.
+#[tactic(auto, unfolding(crate::specs::Forwarding::targets_m))]
 pub fn targets_m(m: StageM) -> Targets
     ensures { result ≡ targets_m m }
 {
@@ -86,6 +92,7 @@ pub fn targets_m(m: StageM) -> Targets
     }
 }
 
+#[tactic(auto, unfolding(crate::specs::Forwarding::targets_w))]
 pub fn targets_w(w: StageW) -> Targets
     ensures { result ≡ targets_w w }
 {
@@ -98,6 +105,7 @@ pub fn targets_w(w: StageW) -> Targets
     }
 }
 
+#[tactic(auto, unfolding(crate::specs::Forwarding::result_m))]
 fn result_m(m: StageM) -> u64
     ensures { result ≡ result_m m }
 {
@@ -107,6 +115,7 @@ fn result_m(m: StageM) -> u64
     }
 }
 
+#[tactic(auto, unfolding(crate::specs::Forwarding::result_w))]
 pub fn result_w(w: StageW) -> u64
     ensures { result ≡ result_w w }
 {
@@ -116,6 +125,7 @@ pub fn result_w(w: StageW) -> u64
     }
 }
 
+#[tactic(auto, unfolding(crate::specs::Forwarding::word_w))]
 pub fn word_w(w: StageW) -> u64
     ensures { result ≡ word_w w }
 {
@@ -126,6 +136,7 @@ pub fn word_w(w: StageW) -> u64
 }
 
 // "the first match of: result in E, word loaded in M, result in M", then the register file, which W has written by now.
+#[tactic(auto, unfolding(crate::specs::Forwarding::source_by, machine::specs::Memory::value))]
 fn source(
     t: Targets,
     executed: StageM,
@@ -153,6 +164,7 @@ fn source(
 }
 
 // t and u are the targets of what stood in E and in M.
+#[tactic(auto, unfolding(crate::specs::Forwarding::decoded_by))]
 pub fn decode_d(
     d: StageD,
     s: Sources,

@@ -14,6 +14,7 @@ use isa::executing::{execute, new_codes};
 use machine::{Codes, Decoded, REGISTERS, Window};
 
 // valA of E's instruction, or for a store the word that M loads, where that comes late.
+#[tactic(auto, unfolding(clocked::specs::Pipeline::handed_a))]
 fn handed_a(settings: Settings, w: StageW, x: Decoded) -> u64
     ensures { result ≡ handed_a (core_of settings) w x }
 {
@@ -36,6 +37,7 @@ fn handed_a(settings: Settings, w: StageW, x: Decoded) -> u64
 }
 
 // E's instruction after execution, on the codes as the clock began; w is M's after its access.
+#[tactic(auto, unfolding(clocked::specs::Pipeline::after_e, clocked::specs::Pipeline::handed))]
 pub fn after_e(settings: Settings, w: StageW, e: StageE, codes: Codes) -> StageM
     ensures { result ≡ after_e (handed (core_of settings) w e) codes }
 {
@@ -55,6 +57,7 @@ pub fn after_e(settings: Settings, w: StageW, e: StageE, codes: Codes) -> StageM
 }
 
 // M's instruction after its access, and the clock's write: nothing else reads memory from here on.
+#[tactic(auto, unfolding(clocked::specs::Pipeline::after_m, clocked::specs::Pipeline::memory_after))]
 pub fn after_m(window: Window, m: StageM, memory: &mut [u8]) -> StageW
     ensures { (result ≡ after_m m (through window (lent memory.old)))
         × (through window (lent memory.new) ≡ memory_after m (through window (lent memory.old))) }
@@ -65,6 +68,7 @@ pub fn after_m(window: Window, m: StageM, memory: &mut [u8]) -> StageW
     }
 }
 
+#[tactic(auto, unfolding(clocked::specs::Pipeline::codes_after))]
 pub fn codes_after(e: StageE, codes: Codes) -> Codes
     ensures { result ≡ codes_after e codes }
 {
@@ -75,6 +79,7 @@ pub fn codes_after(e: StageE, codes: Codes) -> Codes
 }
 
 // W's write, to the targets that it carries: the result, and then the loaded word.
+#[tactic(auto, unfolding(crate::specs::Forwarding::written_by))]
 pub fn registers_after(targets: Targets, w: StageW, registers: &mut [u64; REGISTERS])
     ensures { registers.new ≡ written_by targets w registers.old }
 {

@@ -1,9 +1,0 @@
-use Rattle.pipe.proofs.Ways.{no_w, some_w}
-use borrow.Author.Rules.{rules}
-use Rattle.pipe.proofs.refusing.refused_in_w.Goals as goal
-
-pub returns-in-None : goal.returns-in-None
-returns-in-None c = search (rules, no_w)
-
-pub returns-in-Some : goal.returns-in-Some
-returns-in-Some c = search (rules, some_w)
