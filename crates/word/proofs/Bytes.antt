@@ -1,6 +1,6 @@
 -- Words in bytes: that the library's eight bytes of a word are the definitions'. Assumes nothing.
-use Rattle.std.proofs.Common.{◌≡◌, ◌-◌, ◌⊎◌, inl, inr, Bor, Option, None, Some, false, lt-ltb, le-ltb, take-take, ℕ, zero, suc, ◌+◌, ◌/◌, ◌%◌, ◌^◌, ◌<◌, ◌≤◌, true, List, length, take, drop, get_or, set, refl, ap, ◌∙◌, arith, ltb-true, append_assoc, length-set}
-use Rattle.std.proofs.Math.Nat.{div-div-eq-div-mul, div-one, pow-suc}
+use Rattle.std.proofs.Common.{Fits, w8, ◌≡◌, ◌-◌, ◌⊎◌, inl, inr, Bor, Option, None, Some, false, lt-ltb, le-ltb, take-take, ℕ, zero, suc, ◌+◌, ◌/◌, ◌%◌, ◌^◌, ◌<◌, ◌≤◌, true, List, length, take, drop, get_or, set, refl, ap, ◌∙◌, arith, ltb-true, append_assoc, length-set}
+use Rattle.std.proofs.Math.Nat.{div-div-eq-div-mul, div-one, pow-suc, pow-succ'}
 use Rattle.std.proofs.Math.Seq.{take-suc-set}
 use Rattle.std.proofs.lemmas.List.{get_or-take, get_or-drop, take-append-drop, drop-set-lt, drop-drop}
 use borrow.Rule.Slice.PartMut.{put_mid}
@@ -70,3 +70,9 @@ bytes_placed (suc k) i m a v h =
 -- a part of eight bytes written over by the bytes of a word
 pub placed_is : (b : List ℕ) (a k v : ℕ) → k ≡ 8 → a + 8 ≤ length b → put_mid a k b (to_le_bytes w64 v) ≡ placed 8 b a v
 placed_is b a k v e h = rw e (rw (div-one v) at (bytes_placed 8 0 b a v h))
+
+-- k bytes hold a number below 256 ^ k
+pub number_below : (m : List ℕ) → ((i : ℕ) → Fits w8 (get_or m i 0)) → (k a : ℕ) → number k m a < 256 ^ k
+unfolding number
+number_below m bytes zero a = omega arith
+number_below m bytes (suc k) a = omega (arith, number_below m bytes k (a + 1), bytes a, pow-succ' 256 k)
