@@ -67,6 +67,16 @@ pub fn record_of<R: Copy>(answer: Result<R, Refused<R>>) -> R
     }
 }
 
+// The number of an answer, 0 or that of the refusal.
+pub fn number_of<R: Copy>(answer: Result<R, Refused<R>>) -> u64
+    ensures { result ≡ number_in answer }
+{
+    match answer {
+        Ok(_) => 0,
+        Err(refused) => u64::from(refused.why),
+    }
+}
+
 // Refusal 1: no memory, or more than 65,536 bytes.
 #[tactic(auto, unfolding(machine::specs::Runs::size_refused))]
 pub fn size_refused(size: usize) -> bool

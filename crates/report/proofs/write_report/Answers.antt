@@ -4,11 +4,10 @@ use Rattle.text.specs.Bytes.{bytes}
 use native.Mathlib.Omega.{arith}
 use Rattle.report.proofs.write_report.Goals as goal
 
-pub returns-then-number-eq0 : goal.returns-then-number-eq0
+pub returns-in-Ok : goal.returns-in-Ok
 unfolding bytes
-returns-then-number-eq0 c = answered _ _ (search rules) c.put_text-first.ensures (omega arith) c.if-number-eq0.true c.put_end.ensures.put
+returns-in-Ok c = answered _ (search rules) c.put_text-first.ensures (omega arith) c.put_end.ensures.put
 
-pub returns-else-number-eq0 : goal.returns-else-number-eq0
+pub returns-in-Err : goal.returns-in-Err
 unfolding bytes
-returns-else-number-eq0 c =
-    refused _ c.args.end (search rules) c.put_text-first.ensures (omega arith) c.if-number-eq0.false c.put_number.ensures.put
+returns-in-Err c = ?
