@@ -46,17 +46,6 @@ pub struct Refused<R> {
     pub given: R,
 }
 
-// The record that was given, where nothing refused it.
-pub fn unless_refused<R: Copy>(refused: Result<(), Refusal>, given: R) -> Result<R, Refused<R>>
-    ensures number { number_in result ≡ number_of refused }
-    ensures record { record_in result ≡ given }
-{
-    match refused {
-        Ok(()) => Ok(given),
-        Err(why) => Err(Refused { why, given }),
-    }
-}
-
 // The record of an answer, refused or not.
 pub fn record_of<R: Copy>(answer: Result<R, Refused<R>>) -> R
     ensures { result ≡ record_in answer }
