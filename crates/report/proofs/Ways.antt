@@ -4,6 +4,9 @@ use mathlib.Core.Bool.{Bool, true, false}
 use mathlib.Core.List.{List, [], ◌++◌}
 use Prim.Native.Nat.{ℕ}
 use lib.ListN.{length, drop, replicate}
+use Rattle.std.specs.Prelude.{Result}
+use Rattle.answers.specs.declared.Refused.{Refused}
+use Rattle.answers.specs.Numbers.{number_in, record_in}
 use Rattle.clocked.specs.declared.Settings.{Settings}
 use Rattle.clocked.specs.declared.Pipeline.{Pipeline}
 use Rattle.machine.specs.Memory.{lent}
@@ -14,12 +17,12 @@ use Rattle.text.specs.Put.{written}
 use Rattle.report.specs.Report.{report, image_refused, image_start, image_run, reported, replayed}
 
 -- THE RUN
-module _ (image : List ℕ) (told : ℕ) (s : Settings) (fresh : Pipeline) (x : Bool) (i : s ≡ as_in_01)
-    (e : ◌≡◌ {A = ℕ × Pipeline} (told, fresh) (pipe_started s (length image) (replicate 15 0) (record { zf = true; sf = false; of = false }) 0))
-    (h : x ≡ image_refused (length image)) where
+module _ (image : List ℕ) (s : Settings) (started : Result Pipeline (Refused Pipeline)) (fresh : Pipeline) (x : Bool) (i : s ≡ as_in_01)
+    (e : ◌≡◌ {A = ℕ × Pipeline} (number_in started, record_in started) (pipe_started s (length image) (replicate 15 0) (record { zf = true; sf = false; of = false }) 0))
+    (f : fresh ≡ record_in started) (h : x ≡ image_refused (length image)) where
   starts : fresh ≡ image_start
   unfolding pipe_started image_start
-  starts = ap (λ (y : ℕ × Pipeline). y.1) e ∙ ap (λ (y : Settings). pipe_start y (replicate 15 0) (record { zf = true; sf = false; of = false }) 0) i
+  starts = f ∙ ap (λ (y : ℕ × Pipeline). y.1) e ∙ ap (λ (y : Settings). pipe_start y (replicate 15 0) (record { zf = true; sf = false; of = false }) 0) i
 
   pub too_large : x ≡ true → pipe_answer 1 fresh (lent image) [] [] ≡ image_run image
   unfolding image_run
