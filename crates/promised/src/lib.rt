@@ -172,10 +172,10 @@ fn run_image(image: &mut [u8]) -> Result<Pipeline, Refused<Pipeline>>
     report::run_image(image)
 }
 
-fn write_report(answer: Result<Pipeline, Refused<Pipeline>>, out: &mut [u8; 652]) -> usize
-    ensures { Fits write_report (number_in answer, record_in answer, out.old) (result, out.new) }
+fn write_report(number: u64, end: Pipeline, out: &mut [u8; 652]) -> usize
+    ensures { Fits write_report (number, end, out.old) (result, out.new) }
 {
-    report::write_report(answer, out)
+    report::write_report(number, end, out)
 }
 
 fn listing_read(text: &[u8], memory: &mut [u8]) -> Result<(), listing::Unread>

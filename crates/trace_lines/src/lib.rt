@@ -53,7 +53,7 @@ fn put_target(out: &mut Writer<'_>, target: u8, value: u64)
     }
 }
 
-fn put_line(out: &mut Writer<'_>, line: Line)
+pub fn put_line(out: &mut Writer<'_>, line: Line)
     ensures { Put (trace_line line.number line.address line.cycle line.target line.value) out.old out.new }
 {
     out.field(line.number, b'\t');
