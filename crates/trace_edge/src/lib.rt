@@ -126,14 +126,14 @@ pub fn check_trace(
     }
     let settings = settings_from(rule, late, windowed, first, end);
     let window = settings.window;
-    let fresh = plain::start(
+    let started = plain::start(
         window,
         size,
         read_registers(registers),
         Codes::from(codes),
         start,
     );
-    let machine = fresh.machine;
+    let machine = answers::record_of(started);
     copy_over(image, copy);
     let found = checking::check(settings, machine, trace, copy);
     let words = [found.line, found.kind];

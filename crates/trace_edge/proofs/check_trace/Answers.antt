@@ -20,7 +20,7 @@ copy_over-requires c =
 
 pub check-found-requires : goal.check-found-requires
 check-found-requires c =
-    fresh c.args.image.now c.args.registers.now c.args.trace.now c.args.copy.now c.args.verdict.now _ _ _ _ _ _ _ _ _ c.numbers_refused-refused.ensures c.check_refusal-number.ensures c.if-number-ne0.false _ _ _ _ _ c.settings_from-settings.ensures c.read_registers.ensures c.from.ensures c.start-fresh.ensures _ c.copy_over.ensures
+    fresh c.args.image.now c.args.registers.now c.args.trace.now c.args.copy.now c.args.verdict.now _ _ _ _ _ _ _ _ _ c.numbers_refused-refused.ensures c.check_refusal-number.ensures c.if-number-ne0.false _ _ _ _ _ c.settings_from-settings.ensures c.read_registers.ensures c.from.ensures (rw (← c.record_of-machine.ensures) at c.start-started.ensures) _ c.copy_over.ensures
 
 pub write_words-requires : goal.write_words-requires
 write_words-requires c =
@@ -28,4 +28,4 @@ write_words-requires c =
 
 pub returns : goal.returns
 returns c =
-    done c.args.image.now c.args.registers.now c.args.trace.now c.args.copy.now c.args.verdict.now _ _ _ _ _ _ _ _ _ c.numbers_refused-refused.ensures c.check_refusal-number.ensures c.if-number-ne0.false _ _ _ _ _ c.settings_from-settings.ensures c.read_registers.ensures c.from.ensures c.start-fresh.ensures _ _ _ _ c.copy_over.ensures c.check-found.ensures c.write_words.ensures
+    done c.args.image.now c.args.registers.now c.args.trace.now c.args.copy.now c.args.verdict.now _ _ _ _ _ _ _ _ _ c.numbers_refused-refused.ensures c.check_refusal-number.ensures c.if-number-ne0.false _ _ _ _ _ c.settings_from-settings.ensures c.read_registers.ensures c.from.ensures (rw (← c.record_of-machine.ensures) at c.start-started.ensures) _ _ _ _ c.copy_over.ensures c.check-found.ensures c.write_words.ensures
