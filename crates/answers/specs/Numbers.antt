@@ -35,6 +35,10 @@ abbrev pub number_of : {A : Type 0} → Result A Refusal → ℕ
 number_of (Ok x) = 0
 number_of (Err why) = refusal_number why
 
+-- what a `?` hands on is the same refusal, which is never 0
+pub refused_on : {A : Type 0} (o : Result A Refusal) (why : Refusal) → IsErrAnd o (λ x. x ≡ why) → number_of o ≡ refusal_number why
+refused_on o why h = let p = err_from_is_err_and o h in rw (p.1, p.2) refl
+
 -- the same of an answer that gives back a record, refused or not
 abbrev pub number_in : {R : Type 0} → Result R (Refused R) → ℕ
 number_in (Ok r) = 0

@@ -4,68 +4,74 @@
 
 ghost use Rattle.std.specs.Prelude.{◌≡◌, ◌≤◌, length};
 ghost use Rattle.machine.specs.Memory.{lent};
+ghost use Rattle.answers.specs.Numbers.{number_of};
 ghost use Rattle.writing.specs.Text.{listing_of};
 ghost use Rattle.writing_edge.specs.Writings.{written, encode_refusal, encoded, range_refused, list_refusal, listing_written};
 
+use answers::Refusal;
 use block::write_words;
 use encoding::Fields;
 use text::Writer;
 use writing::put_listing;
 
-// The lowest refusal that applies before the length is known, or 0.
-#[tactic(auto, using(crate::proofs::Ways::no_block))]
-fn encode_refusal(told: usize, i: Fields) -> u64
-    ensures { result ≡ encode_refusal told i }
+// The lowest refusal that applies before the length is known.
+#[tactic(auto, unfolding(crate::specs::Writings::encode_refusal, machine::specs::Runs::lowest))]
+fn admit_instruction(told: usize, i: Fields) -> Result<(), Refusal>
+    ensures { number_of result ≡ encode_refusal told i }
 {
     if told != 8 {
-        return 4;
+        return Err(Refusal::ShortBlock);
     }
     if i.refused() {
-        return 5;
+        return Err(Refusal::BadRecord);
     }
-    0
+    Ok(())
 }
 
-// The bytes of an instruction.
-pub fn encode(bytes: &mut [u8], told: &mut [u8], i: Fields) -> u64
-    ensures { written result bytes.new told.new ≡ encoded bytes.old told.old i }
+fn try_encode(bytes: &mut [u8], told: &mut [u8], i: Fields) -> Result<(), Refusal>
+    ensures { written (number_of result) bytes.new told.new ≡ encoded bytes.old told.old i }
 {
-    let number = encode_refusal(told.len(), i);
-    if number != 0 {
-        return number;
-    }
+    admit_instruction(told.len(), i)?;
     let needed = i.length();
-    let words = [needed as u64];
-    write_words(told, &words);
+    write_words(told, &[needed as u64]);
     if bytes.len() < needed {
-        return 8;
+        return Err(Refusal::NoRoom);
     }
     let mut out = Writer::new(bytes);
     i.put(&mut out);
-    0
+    Ok(())
+}
+
+// The bytes of an instruction. The answer is a number, as the C interface has it.
+pub fn encode(bytes: &mut [u8], told: &mut [u8], i: Fields) -> u64
+    ensures { written result bytes.new told.new ≡ encoded bytes.old told.old i }
+{
+    answers::number(try_encode(bytes, told, i))
 }
 
 // Refusal 7: the range goes backwards, or past memory.
+#[tactic(auto, unfolding(crate::specs::Writings::range_refused))]
 fn range_refused(size: usize, start: u64, end: u64) -> bool
     ensures { result ≡ range_refused size start end }
 {
     (end < start) | ((size as u64) < end)
 }
 
-// The lowest refusal that applies before the length is known, or 0.
-fn list_refusal(size: usize, block: usize, start: u64, end: u64) -> u64
-    ensures { result ≡ list_refusal size block start end }
+// The lowest refusal that applies before the length is known.
+#[tactic(auto, unfolding(crate::specs::Writings::list_refusal, machine::specs::Runs::lowest))]
+fn admit_listing(size: usize, block: usize, start: u64, end: u64) -> Result<(), Refusal>
+    ensures { number_of result ≡ list_refusal size block start end }
 {
     if answers::size_refused(size) {
-        return 1;
+        return Err(Refusal::MemorySize);
     }
     if block != 8 {
-        return 4;
+        return Err(Refusal::ShortBlock);
     }
     if range_refused(size, start, end) {
-        return 7;
+        return Err(Refusal::BadRange);
     }
-    0
+    Ok(())
 }
 
 // The length of the listing: it is put where there is no place, and only counted.
@@ -79,23 +85,31 @@ fn listing_length(memory: &[u8], start: u64, end: u64) -> usize
     out.length()
 }
 
-// The listing of memory from a start up to an end.
-#[tactic(auto, using(crate::proofs::Ways::listing_too_short))]
+fn try_write_listing(
+    memory: &[u8],
+    text: &mut [u8],
+    told: &mut [u8],
+    start: u64,
+    end: u64,
+) -> Result<(), Refusal>
+    ensures { written (number_of result) text.new told.new
+        ≡ listing_written memory.now text.old told.old start end }
+{
+    admit_listing(memory.len(), told.len(), start, end)?;
+    let needed = listing_length(memory, start, end);
+    write_words(told, &[needed as u64]);
+    if text.len() < needed {
+        return Err(Refusal::NoRoom);
+    }
+    let mut out = Writer::new(text);
+    put_listing(&mut out, memory, start, end);
+    Ok(())
+}
+
+// The listing of memory from a start up to an end. The answer is a number, as the C interface has it.
 pub fn write_listing(memory: &[u8], text: &mut [u8], told: &mut [u8], start: u64, end: u64) -> u64
     ensures { written result text.new told.new
         ≡ listing_written memory.now text.old told.old start end }
 {
-    let number = list_refusal(memory.len(), told.len(), start, end);
-    if number != 0 {
-        return number;
-    }
-    let needed = listing_length(memory, start, end);
-    let words = [needed as u64];
-    write_words(told, &words);
-    if text.len() < needed {
-        return 8;
-    }
-    let mut out = Writer::new(text);
-    put_listing(&mut out, memory, start, end);
-    0
+    answers::number(try_write_listing(memory, text, told, start, end))
 }
