@@ -9,7 +9,7 @@ use Rattle.account.specs.Statement.{Start}
 use Rattle.peaks.specs.declared.Answer.{Answer}
 use Rattle.peaks.specs.Day.{judged}
 use Rattle.edge.specs.Edge.{Edge, replayed, replayed_set}
-use Rattle.replay_ends.specs.Ends.{Numbers}
+use Rattle.replay_ends.specs.declared.settings.Numbers.{Numbers}
 use Rattle.day_edge.specs.Days.{DayAt, day_answer}
 use Rattle.encoding.specs.Encode.{Fields}
 use Rattle.writing_edge.specs.Writings.{Written, encoded, listing_written}

@@ -5,4 +5,4 @@ use Rattle.edge.proofs.replaying.replay.Goals as goal
 pub returns : goal.returns
 returns c =
     let ran = runs _ _ _ _ _ _ _ _ _ _ _ _ _ c.read_registers.ensures c.from.ensures c.start.ensures c.record_of-fresh.ensures c.run_unlogged.ensures c.record_of-end.ensures in
-    (ran.0, ran.1, c.write_registers.ensures)
+    (ran.0, ran.1, c.write_words.ensures)
