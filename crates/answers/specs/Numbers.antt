@@ -1,7 +1,7 @@
 -- The numbers of the refusals, documents 01 and 02, and what an answer says by them.
 use Rattle.std.specs.Prelude.{◌≡◌, refl, ℕ, Result, Ok, Err}
 use Rattle.std.proofs.Common.{arith}
-use Rattle.std.specs.Result.{IsErrAnd}
+use Rattle.std.specs.Result.{IsOk, IsErrAnd}
 use Rattle.std.proofs.lemmas.Result.{err_from_is_err_and}
 use Rattle.answers.specs.declared.Refusal.{Refusal}
 use Rattle.answers.specs.declared.Refused.{Refused}
@@ -43,6 +43,11 @@ number_in (Err e) = refusal_number e.why
 abbrev pub record_in : {R : Type 0} → Result R (Refused R) → R
 record_in (Ok r) = r
 record_in (Err e) = e.given
+
+-- an answer numbered 0 is no refusal
+pub not_refused : {R : Type 0} (o : Result R (Refused R)) → number_in o ≡ 0 → IsOk o
+not_refused (Ok r) h = refl
+not_refused (Err e) h = absurd (numbered e.why h)
 
 -- what a `?` hands on: the same refusal, with the record as it was given, and never 0
 pub handed_on : {R : Type 0} (o : Result R (Refused R)) (e : Refused R) → IsErrAnd o (λ x. x ≡ e)

@@ -46,17 +46,6 @@ pub struct Refused<R> {
     pub given: R,
 }
 
-// The record that was given, where nothing refused it.
-pub fn unless_refused<R: Copy>(refused: Result<(), Refusal>, given: R) -> Result<R, Refused<R>>
-    ensures number { number_in result ≡ number_of refused }
-    ensures record { record_in result ≡ given }
-{
-    match refused {
-        Ok(()) => Ok(given),
-        Err(why) => Err(Refused { why, given }),
-    }
-}
-
 // The record of an answer, refused or not.
 pub fn record_of<R: Copy>(answer: Result<R, Refused<R>>) -> R
     ensures { result ≡ record_in answer }
@@ -64,6 +53,16 @@ pub fn record_of<R: Copy>(answer: Result<R, Refused<R>>) -> R
     match answer {
         Ok(record) => record,
         Err(refused) => refused.given,
+    }
+}
+
+// The number of an answer, 0 or that of the refusal.
+pub fn number_of<R: Copy>(answer: Result<R, Refused<R>>) -> u64
+    ensures { result ≡ number_in answer }
+{
+    match answer {
+        Ok(_) => 0,
+        Err(refused) => u64::from(refused.why),
     }
 }
 

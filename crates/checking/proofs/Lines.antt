@@ -59,6 +59,10 @@ module _ (k k' : Machine) (m m' : List ℕ) (n : ℕ) (few : k.count < 65536) (s
   unfolding plain_step plain_by plain_refusal lowest budget_refused log_refused
   not_refused = rw (size, le-ltb plain_limit (k.count + 1) (omega arith), window)
 
+  pub made : n ≡ 0
+  unfolding plain_done
+  made = ap (λ (a : PlainAnswer). a.number) (answer ∙ not_refused)
+
   pub stepped : (k' ≡ (step (plain_of k (lent m))).machine) × (lent m' ≡ through no_window (step (plain_of k (lent m))).memory)
   unfolding plain_done steps
   stepped =

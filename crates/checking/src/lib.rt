@@ -111,8 +111,7 @@ fn pass(c: Checking, due: Due, copy: &mut [u8]) -> Checking
     let w = due.w;
     let i = w.instruction;
     let store = store_of(x, copy);
-    let answer = plain::step(machine, copy);
-    let after = answer.machine;
+    let after = plain::step(machine, copy).unwrap();
     let kept = Some(Retired {
         instruction: i,
         holds: w.holds,

@@ -3,7 +3,6 @@ ghost use Rattle.std.specs.Prelude.{◌≡◌, length};
 ghost use Rattle.block.specs.Block.{with_words};
 ghost use Rattle.edge.specs.Edge.{edge_run};
 
-use answers::record_of;
 use block::write_words;
 use clocked::{Pipeline, Settings};
 use machine::Codes;
@@ -21,14 +20,21 @@ pub fn replay(
         × (memory.new ≡ (edge_run settings memory.old registers.old asked.start asked.codes asked.budget).memory.bytes)
         × (registers.new ≡ with_words result.registers registers.old 0) }
 {
-    let fresh = record_of(pipe::start(
+    let started = pipe::start(
         settings,
         memory.len(),
         block::read_registers(registers),
         Codes::from(asked.codes),
         asked.start,
-    ));
-    let end = record_of(pipe::run_unlogged(fresh, memory, asked.budget));
+    );
+    let fresh = match started {
+        Ok(fresh) => fresh,
+        Err(refused) => refused.given,
+    };
+    let end = match pipe::run_unlogged(fresh, memory, asked.budget) {
+        Ok(end) => end,
+        Err(refused) => refused.given,
+    };
     write_words(registers, &end.registers);
     end
 }

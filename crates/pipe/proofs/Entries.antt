@@ -17,42 +17,36 @@ use Rattle.clocked.specs.PipeRuns.{settings_refused, refused_in_d, refused_in_e,
 use Rattle.machine.specs.Runs.{lowest}
 use Rattle.clocked.specs.PipeRuns.{record_refused, pipe_limit, pipe_refusal, PipeAnswer, pipe_answer, pipe_done, pipe_by, pipe_run, pipe_run_unlogged, pipe_clock}
 use Rattle.pipe.specs.Parts.{refusal_by, answer_by}
-use Rattle.std.specs.Prelude.{Result}
-use Rattle.std.specs.Result.{IsErrAnd}
-use Rattle.answers.specs.declared.Refused.{Refused}
-use Rattle.answers.specs.Numbers.{refusal_number, number_in, record_in, handed_on}
+use Rattle.answers.specs.declared.Refusal.{Refusal}
+use Rattle.answers.specs.Numbers.{refusal_number, numbered}
 use Rattle.answers.specs.Refusals.{failed}
 use Rattle.laws.specs.Tests.{neither}
 
--- BY WHAT THE CHECK OF THE ARGUMENTS GAVE: its number and the record
-pub refused : (short : Bool) (k : Pipeline) (m : Memory) (budget : ℕ) (a y : List ℕ) (o : Result Pipeline (Refused Pipeline)) (e : Refused Pipeline) (n : ℕ)
-    → IsErrAnd o (λ x. x ≡ e) → refusal_number e.why ≡ n → e.given ≡ k → n ≡ refusal_by short k (size m) budget
-    → pipe_answer (number_in o) (record_in o) m a y ≡ answer_by short k m budget a y
-unfolding answer_by
-refused short k m budget a y o e n r p q h =
-    let s = handed_on o e r in
-    cc (s.0, s.1, ne_eqb (number_in o) 0 s.2, p, q, h)
+-- BY THE NUMBER THAT THE CHECK OF THE ARGUMENTS GAVE
+module _ (short : Bool) (k : Pipeline) where
+  pub refused : (why : Refusal) (m : Memory) (budget : ℕ) (a y : List ℕ) → refusal_number why ≡ refusal_by short k (size m) budget
+      → pipe_answer (refusal_number why) k m a y ≡ answer_by short k m budget a y
+  unfolding answer_by
+  refused why m budget a y e = cc (ne_eqb (refusal_number why) 0 (numbered why))
 
-module _ (short : Bool) (k : Pipeline) (k' : Pipeline) (n : ℕ) (same : k' ≡ k) (passed : 0 ≡ n) where
-  pub not_refused : (m : Memory) (budget : ℕ) (a y : List ℕ) → n ≡ refusal_by short k (size m) budget → (p : Pipeline) (m' : Memory) (a' y' : List ℕ)
-      → pipe_answer 0 p m' a' y' ≡ pipe_done (clocks (core_of k'.settings) (piped_of k' m) budget) a y
+  pub not_refused : (m : Memory) (budget : ℕ) (a y : List ℕ) → 0 ≡ refusal_by short k (size m) budget → (p : Pipeline) (m' : Memory) (a' y' : List ℕ)
+      → pipe_answer 0 p m' a' y' ≡ pipe_done (clocks (core_of k.settings) (piped_of k m) budget) a y
       → pipe_answer 0 p m' a' y' ≡ answer_by short k m budget a y
   unfolding answer_by
-  not_refused m budget a y h p m' a' y' d = cc (same, passed, h, d)
+  not_refused m budget a y e p m' a' y' d = cc
 
   -- no refusal: the budget is within the limit, and the record's counts are within its cycles
-  pub accepted : (size budget : ℕ) → n ≡ refusal_by short k size budget → (k'.cycles + budget ≤ pipe_limit) × (counts_refused k' ≡ false)
+  pub accepted : (size budget : ℕ) → 0 ≡ refusal_by short k size budget → (k.cycles + budget ≤ pipe_limit) × (counts_refused k ≡ false)
   unfolding refusal_by lowest budget_refused record_refused
   accepted size budget e =
-      let size_fits = failed (size_refused size) 0 _ (sym e ∙ sym passed) in
+      let size_fits = failed (size_refused size) 0 _ (sym e) in
       let budget_fits = failed (budget_refused pipe_limit k.cycles budget) 2 _ size_fits.1 in
       let logs_fit = failed short 3 _ budget_fits.1 in
       let set = neither (settings_refused k.settings) _ (neither (record_refused k) _ (failed (record_refused k || window_refused k.settings.window size) 4 _ logs_fit.1).0).0 in
       let d = neither (refused_in_d k.d) _ set.1 in
       let m = neither (refused_in_m k.m) _ (neither (refused_in_e k.e) _ d.1).1 in
       let kept = neither (refused_kept k.kept) _ (neither (refused_in_w k.w) _ m.1).1 in
-      let within : k.cycles + budget ≤ pipe_limit = omega (arith, ltb-false pipe_limit (k.cycles + budget) (neither (eqb budget 0) _ budget_fits.0).1) in
-      rw same (within, kept.1)
+      (omega (arith, ltb-false pipe_limit (k.cycles + budget) (neither (eqb budget 0) _ budget_fits.0).1), kept.1)
 
 -- WITH LOGS AND WITHOUT
 by_logs : (logs : List ℕ) (short : Bool) (k : Pipeline) (m : Memory) (budget : ℕ) (a y : List ℕ) → short ≡ log_refused logs budget

@@ -15,7 +15,7 @@ ghost use Rattle.pipe.specs.Parts.{answer_by};
 
 use crate::refusing::{refusal, start_refusal};
 use crate::running::looped;
-use answers::{Refused, unless_refused};
+use answers::Refused;
 use clocked::{Kinds, Pipeline, Settings};
 use machine::{Blame, Codes, REGISTERS, Status};
 
@@ -66,7 +66,10 @@ pub fn start(
             address: 0,
         },
     };
-    unless_refused(start_refusal(settings, size, address), fresh)
+    match start_refusal(settings, size, address) {
+        Ok(()) => Ok(fresh),
+        Err(why) => Err(Refused { why, given: fresh }),
+    }
 }
 
 // What the entries share: short says that a lent log is shorter than the budget, and empty logs mean none.
@@ -81,9 +84,13 @@ fn perform(
     ensures { pipe_answer (number_in result) (record_in result) (lent memory.new) addresses.new cycles.new
         ≡ answer_by short pipeline (lent memory.old) budget addresses.old cycles.old }
 {
-    let refused = refusal(pipeline, memory.len(), budget, short);
-    let pipeline = unless_refused(refused, pipeline)?;
-    Ok(looped(pipeline, memory, budget, addresses, cycles))
+    match refusal(pipeline, memory.len(), budget, short) {
+        Ok(()) => Ok(looped(pipeline, memory, budget, addresses, cycles)),
+        Err(why) => Err(Refused {
+            why,
+            given: pipeline,
+        }),
+    }
 }
 
 // A run with both logs.

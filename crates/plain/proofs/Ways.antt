@@ -8,10 +8,8 @@ use native.Mathlib.Numerals.{add-one}
 use borrow.Author.Tests.{ne_eqb, ltb-false}
 use denote.Enum.Bare.{sameb}
 use Rattle.machine.specs.contracts.Status.{the_type}
-use Rattle.answers.specs.declared.Refused.{Refused}
-use Rattle.std.specs.Prelude.{Result}
-use Rattle.std.specs.Result.{IsErrAnd}
-use Rattle.answers.specs.Numbers.{refusal_number, number_in, record_in, handed_on}
+use Rattle.answers.specs.declared.Refusal.{Refusal}
+use Rattle.answers.specs.Numbers.{refusal_number, numbered}
 use lib.Dec.{eqb, ltb}
 use lib.ListN.{length, set, length-append}
 use Rattle.machine.specs.declared.Status.{Status}
@@ -143,29 +141,24 @@ module _ (k : Machine) (m : Memory) (budget : ℕ) (l : List ℕ) (s : Machine) 
       let e : n ≡ budget = omega (arith, g.within) in
       rw e at g.so_far
 
--- THE ENTRIES
-pub refuses : (k : Machine) (m : Memory) (budget : ℕ) (log : List ℕ) (o : Result Machine (Refused Machine)) (e : Refused Machine) (n : ℕ)
-    → IsErrAnd o (λ x. x ≡ e) → refusal_number e.why ≡ n → e.given ≡ k → n ≡ plain_refusal k.window (size m) k.count budget (length log ∷ [])
-    → plain_answer (number_in o) (record_in o) m log ≡ plain_run k m budget log
-unfolding plain_run plain_by
-refuses k m budget log o e n r p q h =
-    let s = handed_on o e r in
-    cc (s.0, s.1, ne_eqb (number_in o) 0 s.2, p, q, h)
+-- THE ENTRIES, by the number that the check of the arguments gave
+module _ (k : Machine) (m : Memory) (budget : ℕ) (log : List ℕ) where
+  pub refuses : (why : Refusal) → refusal_number why ≡ plain_refusal k.window (size m) k.count budget (length log ∷ [])
+      → plain_answer (refusal_number why) k m log ≡ plain_run k m budget log
+  unfolding plain_run plain_by
+  refuses why h = cc (ne_eqb (refusal_number why) 0 (numbered why))
 
--- by what the check of the arguments gave: its number and the record
-module _ (k : Machine) (m : Memory) (budget : ℕ) (log : List ℕ) (k' : Machine) (n : ℕ) (same : k' ≡ k) (passed : 0 ≡ n)
-    (h : n ≡ plain_refusal k.window (size m) k.count budget (length log ∷ [])) where
-  pub within_limit : k'.count + budget ≤ plain_limit
-  unfolding plain_refusal lowest budget_refused
-  within_limit =
-      let p = failed (size_refused (size m)) 0 _ (sym h ∙ sym passed) in
-      let q = failed (budget_refused plain_limit k.count budget) 2 _ p.1 in
-      let r = ltb-false plain_limit (k.count + budget) (neither (eqb budget 0) (ltb plain_limit (k.count + budget)) q.0).1 in
-      rw same r
+  module _ (h : 0 ≡ plain_refusal k.window (size m) k.count budget (length log ∷ [])) where
+    pub within_limit : k.count + budget ≤ plain_limit
+    unfolding plain_refusal lowest budget_refused
+    within_limit =
+        let p = failed (size_refused (size m)) 0 _ (sym h) in
+        let q = failed (budget_refused plain_limit k.count budget) 2 _ p.1 in
+        ltb-false plain_limit (k.count + budget) (neither (eqb budget 0) (ltb plain_limit (k.count + budget)) q.0).1
 
-  pub ends : (r : Machine) (m' : Memory) (l' : List ℕ) → RunsTo k' m budget log r m' l' → plain_answer 0 r m' l' ≡ plain_run k m budget log
-  unfolding plain_run plain_by plain_done
-  ends r m' l' e = cc (same, passed, h, e.machine_is, e.memory_is, e.log_is)
+    pub ends : (r : Machine) (m' : Memory) (l' : List ℕ) → RunsTo k m budget log r m' l' → plain_answer 0 r m' l' ≡ plain_run k m budget log
+    unfolding plain_run plain_by plain_done
+    ends r m' l' e = cc (e.machine_is, e.memory_is, e.log_is)
 
 -- a run of 1 with a log of 1 is a step, but for what it logs
 pub one_step : (k : Machine) (m : Memory) (n : ℕ) (r : Machine) (m' : Memory) (x : ℕ) (l' : List ℕ)

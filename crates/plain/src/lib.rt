@@ -13,7 +13,7 @@ ghost use Rattle.machine.specs.Runs.{plain_started, plain_limit, plain_refusal, 
 ghost use Rattle.answers.specs.Numbers.{number_of, number_in, record_in};
 ghost use Rattle.plain.specs.Records.{with_register, after_performed, after_stop, RunsTo};
 
-use answers::{Refusal, Refused, unless_refused};
+use answers::{Refusal, Refused};
 use fetching::{blame_of, instruction_at};
 use isa::accessing::{access, update};
 use isa::decoding::{is_bad, loaded_target, result_target, source_a, source_b, value, write};
@@ -46,7 +46,10 @@ pub fn start(
         },
         window,
     };
-    unless_refused(answers::start_refusal(window, size, address), fresh)
+    match answers::start_refusal(window, size, address) {
+        Ok(()) => Ok(fresh),
+        Err(why) => Err(Refused { why, given: fresh }),
+    }
 }
 
 // The record with one register changed, as document 01 has it: 15 changes nothing.
@@ -169,9 +172,13 @@ pub fn run(
     ensures { plain_answer (number_in result) (record_in result) (lent memory.new) log.new
         ≡ plain_run machine (lent memory.old) budget log.old }
 {
-    let refused = refusal(machine, memory.len(), budget, log.len());
-    let machine = unless_refused(refused, machine)?;
-    Ok(run_on(machine, memory, budget, log))
+    match refusal(machine, memory.len(), budget, log.len()) {
+        Ok(()) => Ok(run_on(machine, memory, budget, log)),
+        Err(why) => Err(Refused {
+            why,
+            given: machine,
+        }),
+    }
 }
 
 // A step is a run of 1 without a log: it lends one of its own.

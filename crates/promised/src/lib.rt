@@ -15,12 +15,14 @@ ghost use Rattle.edge.specs.Edge.{edge};
 ghost use Rattle.replay_ends.specs.Ends.{numbers};
 ghost use Rattle.listing_edge.specs.Listings.{listing_edge};
 ghost use Rattle.together.specs.Both.{start_of, both_answer};
+ghost use Rattle.answers.specs.Numbers.{number_in, record_in};
 ghost use Rattle.cases.specs.Promises.{Fits, fetching, plain_start_operation, plain_step_operation, plain_run_operation};
 ghost use Rattle.cases.specs.Listings.{listing_read_lem, edge_listing};
 ghost use Rattle.cases.specs.Program.{report_image, image_run_lem, write_report};
 ghost use Rattle.cases.specs.Promises.{pipe_start_operation, pipe_clock_operation, pipe_run_operation, pipe_run_unlogged_operation, host_edge, replay_set, run_both};
 ghost use Rattle.cases.specs.Promises.{day_judged, day_exported, instruction_encoded, listing_written_lem, input_reported};
 
+use answers::Refused;
 use clocked::{Pipeline, Settings};
 use machine::{Codes, FetchAnswer, Machine, REGISTERS, Window};
 
@@ -36,21 +38,21 @@ fn plain_start(
     registers: [u64; REGISTERS],
     codes: Codes,
     address: u64,
-) -> plain::Answer
-    ensures { Fits plain_start_operation (window, size, registers, codes, address) (result.number, result.machine) }
+) -> Result<Machine, Refused<Machine>>
+    ensures { Fits plain_start_operation (window, size, registers, codes, address) (number_in result, record_in result) }
 {
     plain::start(window, size, registers, codes, address)
 }
 
-fn plain_step(machine: Machine, memory: &mut [u8]) -> plain::Answer
-    ensures { Fits plain_step_operation (machine, lent memory.old) (plain_answer result.number result.machine (lent memory.new) []) }
+fn plain_step(machine: Machine, memory: &mut [u8]) -> Result<Machine, Refused<Machine>>
+    ensures { Fits plain_step_operation (machine, lent memory.old) (plain_answer (number_in result) (record_in result) (lent memory.new) []) }
 {
     plain::step(machine, memory)
 }
 
-fn plain_run(machine: Machine, memory: &mut [u8], budget: u64, log: &mut [u64]) -> plain::Answer
+fn plain_run(machine: Machine, memory: &mut [u8], budget: u64, log: &mut [u64]) -> Result<Machine, Refused<Machine>>
     ensures { Fits plain_run_operation (machine, lent memory.old, budget, log.old)
-        (plain_answer result.number result.machine (lent memory.new) log.new) }
+        (plain_answer (number_in result) (record_in result) (lent memory.new) log.new) }
 {
     plain::run(machine, memory, budget, log)
 }
@@ -61,14 +63,14 @@ fn pipe_start(
     registers: [u64; REGISTERS],
     codes: Codes,
     address: u64,
-) -> pipe::Answer
-    ensures { Fits pipe_start_operation (settings, size, registers, codes, address) (result.number, result.pipeline) }
+) -> Result<Pipeline, Refused<Pipeline>>
+    ensures { Fits pipe_start_operation (settings, size, registers, codes, address) (number_in result, record_in result) }
 {
     pipe::start(settings, size, registers, codes, address)
 }
 
-fn pipe_clock(pipeline: Pipeline, memory: &mut [u8]) -> pipe::Answer
-    ensures { Fits pipe_clock_operation (pipeline, lent memory.old) (pipe_answer result.number result.pipeline (lent memory.new) [] []) }
+fn pipe_clock(pipeline: Pipeline, memory: &mut [u8]) -> Result<Pipeline, Refused<Pipeline>>
+    ensures { Fits pipe_clock_operation (pipeline, lent memory.old) (pipe_answer (number_in result) (record_in result) (lent memory.new) [] []) }
 {
     pipe::clock(pipeline, memory)
 }
@@ -79,16 +81,16 @@ fn pipe_run(
     budget: u64,
     addresses: &mut [u64],
     cycles: &mut [u64],
-) -> pipe::Answer
+) -> Result<Pipeline, Refused<Pipeline>>
     ensures { Fits pipe_run_operation (pipeline, lent memory.old, budget, addresses.old, cycles.old)
-        (pipe_answer result.number result.pipeline (lent memory.new) addresses.new cycles.new) }
+        (pipe_answer (number_in result) (record_in result) (lent memory.new) addresses.new cycles.new) }
 {
     pipe::run(pipeline, memory, budget, addresses, cycles)
 }
 
-fn pipe_run_unlogged(pipeline: Pipeline, memory: &mut [u8], budget: u64) -> pipe::Answer
+fn pipe_run_unlogged(pipeline: Pipeline, memory: &mut [u8], budget: u64) -> Result<Pipeline, Refused<Pipeline>>
     ensures { Fits pipe_run_unlogged_operation (pipeline, lent memory.old, budget)
-        (pipe_answer result.number result.pipeline (lent memory.new) [] []) }
+        (pipe_answer (number_in result) (record_in result) (lent memory.new) [] []) }
 {
     pipe::run_unlogged(pipeline, memory, budget)
 }
@@ -150,8 +152,8 @@ fn both(
       addresses.old,
       cycles.old,
     )
-        (both_answer (plain_answer result.plain.number result.plain.machine (lent memory.new) log.new)
-        (pipe_answer result.pipe.number result.pipe.pipeline (lent copy.new) addresses.new cycles.new)) }
+        (both_answer (plain_answer (number_in result.plain) (record_in result.plain) (lent memory.new) log.new)
+        (pipe_answer (number_in result.pipe) (record_in result.pipe) (lent copy.new) addresses.new cycles.new)) }
 {
     together::run_both(
         settings, registers, codes, address, memory, copy, budget, clocked, log, addresses, cycles,
@@ -164,16 +166,16 @@ fn report_image(image: &mut [u8], out: &mut [u8; 652]) -> usize
     report::report_image(image, out)
 }
 
-fn run_image(image: &mut [u8]) -> pipe::Answer
-    ensures { Fits image_run_lem image.old (pipe_answer result.number result.pipeline (lent image.new) [] []) }
+fn run_image(image: &mut [u8]) -> Result<Pipeline, Refused<Pipeline>>
+    ensures { Fits image_run_lem image.old (pipe_answer (number_in result) (record_in result) (lent image.new) [] []) }
 {
     report::run_image(image)
 }
 
-fn write_report(number: u64, end: Pipeline, out: &mut [u8; 652]) -> usize
-    ensures { Fits write_report (number, end, out.old) (result, out.new) }
+fn write_report(answer: Result<Pipeline, Refused<Pipeline>>, out: &mut [u8; 652]) -> usize
+    ensures { Fits write_report (number_in answer, record_in answer, out.old) (result, out.new) }
 {
-    report::write_report(number, end, out)
+    report::write_report(answer, out)
 }
 
 fn listing_read(text: &[u8], memory: &mut [u8]) -> listing::Answer

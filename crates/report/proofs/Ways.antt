@@ -5,7 +5,11 @@ use mathlib.Core.List.{List, [], ◌++◌}
 use Prim.Native.Nat.{ℕ, ◌≤◌}
 use native.Mathlib.Omega.{arith}
 use lib.ListN.{length, drop, replicate}
-use borrow.Author.Tests.{eq-eqb, ne_eqb}
+use borrow.Author.Tests.{ne_eqb}
+use Rattle.std.specs.Prelude.{Result}
+use Rattle.answers.specs.declared.Refusal.{Refusal}
+use Rattle.answers.specs.declared.Refused.{Refused}
+use Rattle.answers.specs.Numbers.{refusal_number, numbered, number_in, record_in}
 use Rattle.clocked.specs.declared.Settings.{Settings}
 use Rattle.clocked.specs.declared.Pipeline.{Pipeline}
 use Rattle.machine.specs.Memory.{lent}
@@ -26,26 +30,26 @@ module _ {a b c d e : List ℕ} {at i j k r : ℕ} where
   end p x y z w = put_both (put_both (put_both x y) z) w
 
 -- THE REPORT
-module _ {a b c : List ℕ} {i r : ℕ} (n : ℕ) (p : Pipeline) (room : length a ≡ 652) (first : Put (bytes "y86run\t1\n") 0 a i b) (fits : r ≤ 652) where
-  pub answered : n ≡ 0 → Put (end_lines p) i b r c → ◌≡◌ {A = ℕ × List ℕ} (r, c) (written (report n p) a)
+module _ {a b c : List ℕ} {i r : ℕ} (p : Pipeline) (room : length a ≡ 652) (first : Put (bytes "y86run\t1\n") 0 a i b) (fits : r ≤ 652) where
+  pub answered : Put (end_lines p) i b r c → ◌≡◌ {A = ℕ × List ℕ} (r, c) (written (report 0 p) a)
   unfolding report line bytes
-  answered h y =
-      let q : Put (report n p) 0 a r c = rw (eq-eqb n 0 h) (put_both first y) in
+  answered y =
+      let q : Put (report 0 p) 0 a r c = put_both first y in
       put_front q (omega (arith, q.place))
 
-  pub refused : (n ≡ 0 → ⊥) → Put (number_line "refused" n) i b r c → ◌≡◌ {A = ℕ × List ℕ} (r, c) (written (report n p) a)
+  pub refused : (why : Refusal) → Put (number_line "refused" (refusal_number why)) i b r c → ◌≡◌ {A = ℕ × List ℕ} (r, c) (written (report (refusal_number why) p) a)
   unfolding report line bytes
-  refused h y =
-      let q : Put (report n p) 0 a r c = rw (ne_eqb n 0 h) (put_both first y) in
+  refused why y =
+      let q : Put (report (refusal_number why) p) 0 a r c = rw (ne_eqb (refusal_number why) 0 (numbered why)) (put_both first y) in
       put_front q (omega (arith, q.place))
 
 -- THE RUN
-module _ (image : List ℕ) (told : ℕ) (s : Settings) (fresh : Pipeline) (x : Bool) (i : s ≡ as_in_01)
-    (e : ◌≡◌ {A = ℕ × Pipeline} (told, fresh) (pipe_started s (length image) (replicate 15 0) (record { zf = true; sf = false; of = false }) 0))
-    (h : x ≡ image_refused (length image)) where
+module _ (image : List ℕ) (s : Settings) (started : Result Pipeline (Refused Pipeline)) (fresh : Pipeline) (x : Bool) (i : s ≡ as_in_01)
+    (e : ◌≡◌ {A = ℕ × Pipeline} (number_in started, record_in started) (pipe_started s (length image) (replicate 15 0) (record { zf = true; sf = false; of = false }) 0))
+    (f : fresh ≡ record_in started) (h : x ≡ image_refused (length image)) where
   starts : fresh ≡ image_start
   unfolding pipe_started image_start
-  starts = ap (λ (y : ℕ × Pipeline). y.1) e ∙ ap (λ (y : Settings). pipe_start y (replicate 15 0) (record { zf = true; sf = false; of = false }) 0) i
+  starts = f ∙ ap (λ (y : ℕ × Pipeline). y.1) e ∙ ap (λ (y : Settings). pipe_start y (replicate 15 0) (record { zf = true; sf = false; of = false }) 0) i
 
   pub too_large : x ≡ true → pipe_answer 1 fresh (lent image) [] [] ≡ image_run image
   unfolding image_run

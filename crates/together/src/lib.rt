@@ -6,16 +6,18 @@ ghost use Rattle.std.specs.Prelude.{◌≡◌};
 ghost use Rattle.machine.specs.Memory.{lent};
 ghost use Rattle.machine.specs.Runs.{plain_answer};
 ghost use Rattle.clocked.specs.PipeRuns.{pipe_answer};
+ghost use Rattle.answers.specs.Numbers.{number_in, record_in};
 ghost use Rattle.together.specs.Both.{start_of, plain_fresh, pipe_fresh, both_answer, RunsBoth};
 
-use clocked::Settings;
-use machine::{Codes, REGISTERS, Window};
+use answers::Refused;
+use clocked::{Pipeline, Settings};
+use machine::{Codes, Machine, REGISTERS, Window};
 
 // What each engine answers.
 #[derive(Clone, Copy)]
 pub struct Both {
-    pub plain: plain::Answer,
-    pub pipe: pipe::Answer,
+    pub plain: Result<Machine, Refused<Machine>>,
+    pub pipe: Result<Pipeline, Refused<Pipeline>>,
 }
 
 // The plain engine from a fresh start, which is not run where it is refused.
@@ -27,15 +29,11 @@ fn run_plain(
     memory: &mut [u8],
     budget: u64,
     log: &mut [u64],
-) -> plain::Answer
-    ensures { plain_answer result.number result.machine (lent memory.new) log.new
+) -> Result<Machine, Refused<Machine>>
+    ensures { plain_answer (number_in result) (record_in result) (lent memory.new) log.new
         ≡ plain_fresh window registers codes address (lent memory.old) budget log.old }
 {
-    let started = plain::start(window, memory.len(), registers, codes, address);
-    if started.number != 0 {
-        return started;
-    }
-    let machine = started.machine;
+    let machine = plain::start(window, memory.len(), registers, codes, address)?;
     plain::run(machine, memory, budget, log)
 }
 
@@ -49,15 +47,11 @@ fn run_pipe(
     budget: u64,
     addresses: &mut [u64],
     cycles: &mut [u64],
-) -> pipe::Answer
-    ensures { pipe_answer result.number result.pipeline (lent memory.new) addresses.new cycles.new
+) -> Result<Pipeline, Refused<Pipeline>>
+    ensures { pipe_answer (number_in result) (record_in result) (lent memory.new) addresses.new cycles.new
         ≡ pipe_fresh settings registers codes address (lent memory.old) budget addresses.old cycles.old }
 {
-    let started = pipe::start(settings, memory.len(), registers, codes, address);
-    if started.number != 0 {
-        return started;
-    }
-    let pipeline = started.pipeline;
+    let pipeline = pipe::start(settings, memory.len(), registers, codes, address)?;
     pipe::run(pipeline, memory, budget, addresses, cycles)
 }
 
@@ -77,11 +71,10 @@ pub fn run_both(
 ) -> Both
     ensures { RunsBoth (start_of settings registers codes address (lent memory.old)) (lent copy.old) budget clocked
         log.old addresses.old cycles.old
-        (both_answer (plain_answer result.plain.number result.plain.machine (lent memory.new) log.new)
-        (pipe_answer result.pipe.number result.pipe.pipeline (lent copy.new) addresses.new cycles.new)) }
+        (both_answer (plain_answer (number_in result.plain) (record_in result.plain) (lent memory.new) log.new)
+        (pipe_answer (number_in result.pipe) (record_in result.pipe) (lent copy.new) addresses.new cycles.new)) }
 {
-    let window = settings.window;
-    let plain = run_plain(window, registers, codes, address, memory, budget, log);
+    let plain = run_plain(settings.window, registers, codes, address, memory, budget, log);
     let pipe = run_pipe(
         settings, registers, codes, address, copy, clocked, addresses, cycles,
     );

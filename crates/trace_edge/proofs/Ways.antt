@@ -3,21 +3,16 @@ use mathlib.Core.Path.{◌≡◌, refl, ap, sym, ◌∙◌}
 use mathlib.Core.Bool.{cond}
 use Rattle.std.specs.Prelude.{Option, None, Some, is_none}
 use mathlib.Core.List.{List, [], ◌∷◌}
-use Prim.Native.Nat.{ℕ, ◌+◌, ◌≤◌, ◌<◌}
-use native.Mathlib.Omega.{arith}
-use native.Mathlib.Numerals.{add-one}
-use borrow.Author.Tests.{eq-eqb, ne_eqb}
-use lib.Dec.{eqb, ltb}
-use lib.ListN.{length, take, get_or, set, length-set}
-use lib.Seq.{take-suc, take-suc-set, take_all}
+use Prim.Native.Nat.{ℕ}
+use borrow.Author.Tests.{ne_eqb}
+use lib.ListN.{length}
 use Rattle.machine.specs.declared.Codes.{Codes}
 use Rattle.machine.specs.declared.Machine.{Machine}
-use Rattle.machine.specs.Types.{Window}
-use Rattle.machine.specs.Types.{no_window, within}
+use Rattle.machine.specs.Types.{no_window}
 use Rattle.clocked.specs.declared.Settings.{Settings}
 use Rattle.machine.specs.Memory.{Memory, lent, through}
 use Rattle.machine.specs.Plain.{Plain, plain_of, plain_start, steps}
-use Rattle.machine.specs.Runs.{size_refused, window_refused, start_refused, lowest, plain_started}
+use Rattle.machine.specs.Runs.{plain_started}
 use Rattle.clocked.specs.Prediction.{core_of}
 use Rattle.block.specs.Block.{words_in, with_words, codes_from}
 use Rattle.trace.specs.declared.Verdict.{Verdict}

@@ -7,7 +7,7 @@ ghost use Rattle.answers.specs.Numbers.{number_of};
 ghost use Rattle.replay_ends.specs.Ends.{numbers};
 ghost use Rattle.trace_edge.specs.Checks.{check, check_refusal, checked};
 
-use answers::Refusal;
+use answers::{Refusal, record_of};
 use block::{read_registers, write_words};
 use machine::Codes;
 use replay_ends::settings::Numbers;
@@ -72,7 +72,7 @@ fn checked(
         codes,
         chosen.settings(size),
     )?;
-    let fresh = plain::start(
+    let started = plain::start(
         settings.window,
         size,
         read_registers(registers),
@@ -80,7 +80,8 @@ fn checked(
         start,
     );
     copy.copy_from_slice(image);
-    let found = checking::check(settings, fresh.machine, trace, copy);
+    let machine = record_of(started);
+    let found = checking::check(settings, machine, trace, copy);
     let words = [found.line, found.kind];
     write_words(verdict, &words);
     Ok(())
@@ -111,9 +112,7 @@ pub fn check_trace(
         first,
         end,
     };
-    checked(
-        image, registers, trace, copy, verdict, start, codes, chosen,
-    )
-    .err()
-    .map_or(0, u64::from)
+    checked(image, registers, trace, copy, verdict, start, codes, chosen)
+        .err()
+        .map_or(0, u64::from)
 }

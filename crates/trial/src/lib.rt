@@ -7,6 +7,7 @@
 
 #![tactic(auto)]
 
+use answers::{number_of, record_of};
 use blocks_in::layout::{MACHINE_WINDOW, STATE};
 use blocks_in::reading::{codes_in, machine_in, pipeline_in, registers_in, settings_in, window_in};
 use blocks_out::writing::{put_fault_address, put_instruction, put_machine, put_pipeline};
@@ -32,19 +33,17 @@ pub extern "C" fn trial_plain_start(block: &mut [u64], size: u64, address: u64) 
         codes_in(block, 0),
         address,
     );
-    if answer.number == 0 {
-        let fresh = answer.machine;
+    if let Ok(fresh) = answer {
         put_machine(block, fresh);
     }
-    answer.number
+    number_of(answer)
 }
 
 #[unsafe(no_mangle)]
 pub extern "C" fn trial_plain_step(block: &mut [u64], memory: &mut [u8]) -> u64 {
     let answer = plain::step(machine_in(block), memory);
-    let after = answer.machine;
-    put_machine(block, after);
-    answer.number
+    put_machine(block, record_of(answer));
+    number_of(answer)
 }
 
 #[unsafe(no_mangle)]
@@ -55,9 +54,8 @@ pub extern "C" fn trial_plain_run(
     log: &mut [u64],
 ) -> u64 {
     let answer = plain::run(machine_in(block), memory, budget, log);
-    let after = answer.machine;
-    put_machine(block, after);
-    answer.number
+    put_machine(block, record_of(answer));
+    number_of(answer)
 }
 
 // A fresh pipeline record in memory of that size, with the settings, registers and codes that the block
@@ -71,19 +69,17 @@ pub extern "C" fn trial_pipe_start(block: &mut [u64], size: u64, address: u64) -
         codes_in(block, STATE),
         address,
     );
-    if answer.number == 0 {
-        let fresh = answer.pipeline;
+    if let Ok(fresh) = answer {
         put_pipeline(block, fresh);
     }
-    answer.number
+    number_of(answer)
 }
 
 #[unsafe(no_mangle)]
 pub extern "C" fn trial_pipe_clock(block: &mut [u64], memory: &mut [u8]) -> u64 {
     let answer = pipe::clock(pipeline_in(block), memory);
-    let after = answer.pipeline;
-    put_pipeline(block, after);
-    answer.number
+    put_pipeline(block, record_of(answer));
+    number_of(answer)
 }
 
 #[unsafe(no_mangle)]
@@ -93,9 +89,8 @@ pub extern "C" fn trial_pipe_run_unlogged(
     budget: u64,
 ) -> u64 {
     let answer = pipe::run_unlogged(pipeline_in(block), memory, budget);
-    let after = answer.pipeline;
-    put_pipeline(block, after);
-    answer.number
+    put_pipeline(block, record_of(answer));
+    number_of(answer)
 }
 
 #[unsafe(no_mangle)]
@@ -107,7 +102,6 @@ pub extern "C" fn trial_pipe_run(
     cycles: &mut [u64],
 ) -> u64 {
     let answer = pipe::run(pipeline_in(block), memory, budget, addresses, cycles);
-    let after = answer.pipeline;
-    put_pipeline(block, after);
-    answer.number
+    put_pipeline(block, record_of(answer));
+    number_of(answer)
 }

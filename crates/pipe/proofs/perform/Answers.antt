@@ -3,14 +3,11 @@
 use Rattle.pipe.proofs.Entries.{refused, not_refused, accepted}
 use Rattle.pipe.proofs.perform.Goals as goal
 
-pub returns-in_err-pipeline : goal.returns-in_err-pipeline
-returns-in_err-pipeline c =
-    refused _ _ _ _ _ _ _ _ _ c.from_residual.ensures.1 c.in_err-pipeline.ensures.number c.in_err-pipeline.ensures.record c.refusal-refused.ensures
-
 pub looped-requires : goal.looped-requires
-looped-requires c =
-    accepted _ _ _ _ c.in_ok-pipeline.ensures.record c.in_ok-pipeline.ensures.number _ _ c.refusal-refused.ensures
+looped-requires c = accepted _ _ _ _ c.in-Ok.ensures
 
-pub returns : goal.returns
-returns c =
-    not_refused _ _ _ _ c.in_ok-pipeline.ensures.record c.in_ok-pipeline.ensures.number _ _ _ _ c.refusal-refused.ensures _ _ _ _ c.looped.ensures
+pub returns-in-Ok : goal.returns-in-Ok
+returns-in-Ok c = not_refused _ _ _ _ _ _ c.in-Ok.ensures _ _ _ _ c.looped.ensures
+
+pub returns-in-Err : goal.returns-in-Err
+returns-in-Err c = refused _ _ _ _ _ _ _ c.in-Err.ensures

@@ -4,9 +4,9 @@ use Rattle.report.proofs.run_image.Goals as goal
 
 pub returns-then-image_refused : goal.returns-then-image_refused
 returns-then-image_refused c =
-    too_large _ _ _ _ _ c.as_in_01.ensures c.start-started.ensures c.image_refused.ensures c.if-image_refused.true
+    too_large _ _ _ _ _ c.as_in_01.ensures c.start-started.ensures c.record_of-fresh.ensures c.image_refused.ensures c.if-image_refused.true
 
 pub returns : goal.returns
 returns c =
-    runs _ _ _ _ _ c.as_in_01.ensures c.start-started.ensures c.image_refused.ensures _ _ _ c.if-image_refused.false
+    runs _ _ _ _ _ c.as_in_01.ensures c.start-started.ensures c.record_of-fresh.ensures c.image_refused.ensures _ _ _ c.if-image_refused.false
     c.run_unlogged.ensures

@@ -1,14 +1,15 @@
 use Rattle.report.proofs.Ways.{answered, refused}
 use borrow.Author.Rules.{rules}
+use mathlib.Core.Path.{◌≡◌}
 use Rattle.text.specs.Bytes.{bytes}
 use native.Mathlib.Omega.{arith}
 use Rattle.report.proofs.write_report.Goals as goal
 
-pub returns-then-number-eq0 : goal.returns-then-number-eq0
+pub returns-in-Ok : goal.returns-in-Ok
 unfolding bytes
-returns-then-number-eq0 c = answered _ _ (search rules) c.put_text-first.ensures (omega arith) c.if-number-eq0.true c.put_end.ensures.put
+returns-in-Ok c = rw c.in-Ok.is (answered c.in-Ok.end (search rules) c.put_text-first.ensures (omega arith) c.put_end.ensures.put)
 
-pub returns-else-number-eq0 : goal.returns-else-number-eq0
+pub returns-in-Err : goal.returns-in-Err
 unfolding bytes
-returns-else-number-eq0 c =
-    refused _ c.args.end (search rules) c.put_text-first.ensures (omega arith) c.if-number-eq0.false c.put_number.ensures.put
+returns-in-Err c =
+    rw c.in-Err.is (refused c.in-Err.refused.given (search rules) c.put_text-first.ensures (omega arith) c.in-Err.refused.why (rw c.from.ensures at c.put_number.ensures.put))

@@ -1,10 +1,10 @@
 use Rattle.together.proofs.Ways.{plain_refused_lem, plain_runs}
 use Rattle.together.proofs.run_plain.Goals as goal
 
-pub returns-then-started-ne0 : goal.returns-then-started-ne0
-returns-then-started-ne0 c =
-    plain_refused_lem _ _ _ _ _ _ _ _ _ c.start-started.ensures c.if-started-ne0.true
+pub returns-in_err-machine : goal.returns-in_err-machine
+returns-in_err-machine c =
+    plain_refused_lem _ _ _ _ _ _ _ _ _ c.from_residual.ensures.1 c.in_err-machine.ensures
 
 pub returns : goal.returns
 returns c =
-    plain_runs _ _ _ _ _ _ _ _ _ c.start-started.ensures _ c.if-started-ne0.false c.run.ensures
+    plain_runs _ _ _ _ _ _ _ _ _ c.in_ok-machine.ensures c.run.ensures
