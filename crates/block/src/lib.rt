@@ -12,13 +12,7 @@ pub fn read_registers(block: &[u8]) -> [u64; REGISTERS]
     requires { length block.now ≡ 120 }
     ensures { result ≡ words_in 15 block.now 0 }
 {
-    let mut words = [0u64; REGISTERS];
-    let mut k: usize = 0;
-    while k < REGISTERS {
-        words[k] = word::load(block, (8 * k) as u64);
-        k += 1;
-    }
-    words
+    std::array::from_fn(|k| word::load(block, 8 * k as u64))
 }
 
 // The words into a block, from its first byte on.
@@ -26,9 +20,7 @@ pub fn write_words(block: &mut [u8], words: &[u64])
     requires { 8 * length words.now ≤ length block.old }
     ensures { block.new ≡ with_words words.now block.old 0 }
 {
-    let mut k: usize = 0;
-    while k < words.len() {
-        word::store(block, (8 * k) as u64, words[k]);
-        k += 1;
+    for (k, word) in words.iter().enumerate() {
+        word::store(block, 8 * k as u64, *word);
     }
 }

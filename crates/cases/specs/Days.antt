@@ -2,11 +2,11 @@
 use Rattle.std.specs.Prelude.{ℕ, ◌-◌, ◌*◌, ◌^◌, Bool, true, false, ◌&&◌, List, [], ◌∷◌, ◌++◌, ◌≡◌, refl, eqb, replicate}
 use Rattle.std.specs.Float.Ieee.{to_bits, round}
 use Rattle.machine.specs.Memory.{lent, inside}
-use Rattle.machine.specs.Runs.{lowest}
 use Rattle.machine.specs.Words.{signed}
-use Rattle.peaks.specs.Types.{comparison_number}
-use Rattle.peaks.specs.Day.{is_good, good, failed, total, largest, first_place, peak_of, place_of, mean_of, mean_bits, by_sign, compared, raw_of, found_in}
-use Rattle.peaks.specs.Day.{day_of, refusal_of}
+use Rattle.peaks.specs.Types.{comparison_number, refusal_number}
+use Rattle.peaks.specs.Mean.{mean_of, mean_bits}
+use Rattle.peaks.specs.Day.{is_good, good, failed, total, largest, first_place, peak_of, place_of, by_sign, compared, raw_of, found_in}
+use Rattle.peaks.specs.Day.{day_of, refusals, or_refused, number_of, refusal_of}
 use Rattle.day_edge.specs.Days.{words_of, day_words}
 
 unfoldable pub same : List ℕ → List ℕ → Bool
@@ -86,5 +86,5 @@ refusals_hold (r ∷ rs) = eqb (refusal_of (lent (replicate r.0 0)) r.1 r.2 r.3)
 
 -- every day and every refusal holds
 pub days_hold_lem : days_hold days && refusals_hold asked ≡ true
-unfolding days_hold refusals_hold days asked same words_of day_words comparison_number is_good good failed total largest first_place peak_of place_of mean_of mean_bits by_sign compared raw_of found_in day_of refusal_of lowest inside signed to_bits round
+unfolding days_hold refusals_hold days asked same words_of day_words comparison_number is_good good failed total largest first_place peak_of place_of mean_of mean_bits by_sign compared raw_of found_in day_of refusal_of refusals or_refused number_of refusal_number inside signed to_bits round
 days_hold_lem = refl

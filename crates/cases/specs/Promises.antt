@@ -1,17 +1,18 @@
 -- The promise of each open operation. "Every open operation's promise fixes its whole answer and all lent bytes and words afterwards,
 -- refusals too."
-use Rattle.std.specs.Prelude.{ℕ, ◌≡◌, List}
+use Rattle.std.specs.Prelude.{ℕ, ◌≡◌, List, Result}
 use Rattle.machine.specs.Memory.{Memory, Registers}
 use Rattle.clocked.specs.declared.Settings.{Settings}
 use Rattle.machine.specs.Runs.{fetch_answer, plain_started, PlainAnswer, plain_step, plain_run}
 use Rattle.clocked.specs.PipeRuns.{pipe_started, PipeAnswer, pipe_clock, pipe_run, pipe_run_unlogged}
 use Rattle.account.specs.Statement.{Start}
-use Rattle.peaks.specs.declared.Answer.{Answer}
+use Rattle.peaks.specs.declared.Day.{Day}
+use Rattle.peaks.specs.declared.Refusal.{Refusal}
 use Rattle.peaks.specs.Day.{judged}
 use Rattle.edge.specs.Edge.{Edge, replayed, replayed_set}
 use Rattle.replay_ends.specs.declared.settings.Numbers.{Numbers}
 use Rattle.day_edge.specs.Days.{DayAt, day_answer}
-use Rattle.encoding.specs.Encode.{Fields}
+use Rattle.encoding.specs.declared.Fields.{Fields}
 use Rattle.writing_edge.specs.Writings.{Written, encoded, listing_written}
 use Rattle.dayreport.specs.Program.{answered_input}
 use Rattle.together.specs.Both.{BothAnswer, both_runs}
@@ -85,7 +86,7 @@ run_both =
 
 -- peaks::judge: a final memory, the address and the length of a day's table, and the address of the filed peak
 abbrev pub day_judged : Operation
-day_judged = promising (Memory × ℕ × ℕ × ℕ) Answer (λ x. judged x.0 x.1 x.2 x.3)
+day_judged = promising (Memory × ℕ × ℕ × ℕ) (Result Day Refusal) (λ x. judged x.0 x.1 x.2 x.3)
 
 -- edge::y86_peaks: the same with the result block as lent
 abbrev pub day_exported : Operation

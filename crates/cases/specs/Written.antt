@@ -12,7 +12,8 @@ use Rattle.listing.specs.Grammar as grammar
 use Rattle.listing.specs.Reading.{records, done, listed}
 use Rattle.listing_edge.specs.Listings.{listing_refusal, told, listing_edge, told_of, listing_read}
 use Rattle.register_lines.specs.Registers.{register_names, register_name}
-use Rattle.encoding.specs.Encode.{Fields, fields, encode_refused, least_first, pair, tail, form}
+use Rattle.encoding.specs.declared.Fields.{Fields}
+use Rattle.encoding.specs.Encode.{fields, encode_refused, least_first, pair, tail, form}
 use Rattle.writing.specs.HexText.{hex_digit, hex_digits, hex_text, hex_pairs}
 use Rattle.writing.specs.Remark.{mnemonics, mnemonic, operands_of, register, operands, remark}
 use Rattle.writing.specs.Text.{starts, starts_at, within_end, whole, crosses, line_bytes, line_at, lines_from, listing_of}

@@ -1,13 +1,11 @@
 -- One law for each way out of a function. Assumes nothing.
-use mathlib.Core.Path.{◌≡◌, refl, ap, sym, ◌∙◌}
-use mathlib.Core.Bool.{Bool, true, false, cond, ◌&&◌, ◌||◌}
-use mathlib.Core.List.{List, ◌++◌}
-use Prim.Native.Nat.{ℕ, ◌+◌, ◌-◌, ◌/◌, ◌≤◌, ◌<◌}
-use native.Mathlib.Omega.{arith}
-use lib.Dec.{ltb, eqb}
-use lib.ListN.{length, take, drop, get_or, length-drop}
-use lib.Seq.{take_all, take_at, length-take-le}
-use borrow.Author.Tests.{lt-ltb, le-ltb, ltb-true, ltb-false}
+use mathlib.Core.Path.{◌≡◌, refl}
+use mathlib.Core.Bool.{Bool, true, false, ◌&&◌, ◌||◌}
+use mathlib.Core.List.{List}
+use Prim.Native.Nat.{ℕ, ◌+◌, ◌/◌, ◌≤◌}
+use lib.Dec.{ltb}
+use lib.ListN.{length, get_or}
+use borrow.Author.Tests.{le-ltb}
 use Rattle.machine.specs.declared.Accessed.{Accessed}
 use Rattle.machine.specs.declared.Executed.{Executed}
 use Rattle.machine.specs.declared.Instruction.{Instruction}
@@ -16,40 +14,19 @@ use Rattle.machine.specs.Types.{Window}
 use Rattle.machine.specs.Types.{no_window, within}
 use Rattle.machine.specs.Types.{is_set}
 use Rattle.machine.specs.Memory.{Memory, lent, through, inside, value, written}
-use Rattle.machine.specs.Table.{row_of, Accesses, no_access, loads_at_e, loads_at_a, stores_a, stores_next}
+use Rattle.machine.specs.Table.{row_of, Accesses}
 use Rattle.machine.specs.Fetch.{size_at, fetch}
 use Rattle.machine.specs.Stages.{storing, stores, decode, source_a, source_b, execute, result_target, loaded_target, new_registers}
 use Rattle.machine.specs.Plain.{plain_of, fetched, decoded, executed}
-use Rattle.lookup.specs.Numbers.{accesses_number}
-use Rattle.text.specs.Put.{Put, put_front, put_length}
-use Rattle.trace.specs.Verdict.{begins}
 use Rattle.checking.specs.declared.stores.Store.{Store}
 use Rattle.checking.specs.declared.stores.Stores.{Stores}
 use Rattle.checking.specs.Stores.{store_by, hits, touched_by, written_by}
 
 -- STORES
-stores_by : (k : Accesses) → (eqb (accesses_number k) 3 || eqb (accesses_number k) 4) ≡ storing k
-unfolding accesses_number storing
-stores_by no_access = refl
-stores_by loads_at_e = refl
-stores_by loads_at_a = refl
-stores_by stores_a = refl
-stores_by stores_next = refl
-
-pub store_is : (x : Executed) (m : Memory) (k : ℕ) (b : Bool) → k ≡ accesses_number (row_of x.instruction.code).accesses → b ≡ inside m x.result
-    → ◌≡◌ {A = Store} (record { writes = (eqb k 3 || eqb k 4) && b; at = x.result }) (store_by x m)
+pub store_is : (x : Executed) (m : Memory) (k : Accesses) (d b : Bool) → k ≡ (row_of x.instruction.code).accesses → d ≡ storing k → b ≡ inside m x.result
+    → ◌≡◌ {A = Store} (record { writes = d && b; at = x.result }) (store_by x m)
 unfolding store_by stores
-store_is x m k b e f = rw (e, f, stores_by (row_of x.instruction.code).accesses)
-
-pub begins_before : (a first : ℕ) → first < a → true ≡ ltb first (a + 8)
-begins_before a first h = sym (lt-ltb first (a + 8) (omega arith))
-
-pub begins_within : (a first : ℕ) → a ≤ first → ltb (first - a) 8 ≡ ltb first (a + 8)
-begins_within a first h = go (ltb first (a + 8)) refl
-  where
-    go : (b : Bool) → ltb first (a + 8) ≡ b → ltb (first - a) 8 ≡ ltb first (a + 8)
-    go true e = cc (lt-ltb (first - a) 8 (omega (arith, ltb-true first (a + 8) e)))
-    go false e = cc (le-ltb (first - a) 8 (omega (arith, ltb-false first (a + 8) e)))
+store_is x m k d b e f g = cc
 
 pub hits_is : (t : Store) (a end n : ℕ) (b : Bool) → b ≡ ltb a (t.at + 8) → (t.writes && (ltb t.at end && (b && (ltb t.at n && ltb a n)))) ≡ hits t a end n
 unfolding hits
@@ -94,33 +71,3 @@ pub value_is : (r r1 r2 : List ℕ) (w : Accessed) (q t l v : ℕ) → t ≡ res
     → l ≡ loaded_target w.instruction → r2 ≡ written r1 l w.word → v ≡ value r2 q → v ≡ value (new_registers w r) q
 unfolding new_registers
 value_is r r1 r2 w q t l v e f g h j = cc
-
--- THE LINE: the buffer begins with it
-module _ (line buffer after text : List ℕ) (n at : ℕ) (put : Put line 0 buffer n after) (size : length buffer ≡ 88) (within : n ≤ 0 + 88) where
-  long : length line ≤ length buffer
-  long = omega (arith, put.place)
-
-  pub part_long : n ≡ length (take n after)
-  part_long = sym (length-take-le n after (omega (arith, put_length put)))
-
-  first_part : take n after ≡ line
-  first_part =
-      let e = put_front put long in
-      let n_is : n ≡ length line = ap (λ (x : ℕ × List ℕ). x.0) e in
-      let after_is : after ≡ line ++ drop (length line) buffer = ap (λ (x : ℕ × List ℕ). x.1) e in
-      rw (after_is, n_is) (take_at line (drop (length line) buffer) (length line) refl)
-
-  rest : take (length text - at) (drop at text) ≡ drop at text
-  rest = take_all (length text - at) (drop at text) (omega (arith, length-drop at text))
-
-  module _ (b : Bool) (tested : b ≡ begins (take n after) (take (length text - at) (drop at text))) where
-    same : b ≡ begins line (drop at text)
-    same = tested ∙ (ap (λ (x : List ℕ). begins x (take (length text - at) (drop at text))) first_part ∙ ap (begins line) rest)
-
-    pub passed_it : b ≡ true → at + n ≡ cond (begins line (drop at text)) (at + length line) at
-    passed_it h =
-        let n_is : n ≡ length line = ap (λ (x : ℕ × List ℕ). x.0) (put_front put long) in
-        rw (sym same ∙ h) (ap (λ (k : ℕ). at + k) n_is)
-
-    pub stayed : b ≡ false → at ≡ cond (begins line (drop at text)) (at + length line) at
-    stayed h = rw (sym same ∙ h)

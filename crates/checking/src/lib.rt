@@ -24,7 +24,7 @@ use isa::decoding::is_bad;
 use machine::{Accessed, Executed, Machine, PLAIN_LIMIT};
 use retiring::reason_from;
 use trace::Verdict;
-use trace_lines::target_of;
+use trace_lines::{Line, target_of};
 
 // How far a check has come: the plain engine's record, the charges so far, what the next charge is told by, the last stores, the place in the trace, and the
 // kind of fault of the line looked at, 0 for none.
@@ -63,15 +63,14 @@ fn due_line(settings: Settings, c: Checking, trace: &[u8], copy: &[u8]) -> Due
     let target = target_of(w);
     let value = value_after(registers, w, target);
     let number = machine.count + 1;
-    let next = passed(
-        trace,
-        c.at,
+    let line = Line {
         number,
-        machine.address,
-        number + 4 + charged,
+        address: machine.address,
+        cycle: number + 4 + charged,
         target,
         value,
-    );
+    };
+    let next = passed(trace, c.at, line);
     Due {
         x,
         w,

@@ -12,7 +12,7 @@ use fetching::instruction_at;
 use isa::decoding::{loaded_target, result_target, source_a, source_b, value, write};
 use isa::executing::execute;
 use machine::{Accessed, Decoded, Executed, Machine, REGISTERS};
-use trace_lines::{begins, put_line};
+use trace_lines::{Line, begins, write_line};
 
 // The next instruction after execution, before any of it is done.
 pub fn executed_at(m: Machine, memory: &[u8]) -> Executed
@@ -55,22 +55,14 @@ pub fn charge_of(reason: Option<Reason>) -> u64
 }
 
 // The place behind the line, where the text has it at this place, else the same place: no line is empty.
-pub fn passed(
-    text: &[u8],
-    at: usize,
-    number: u64,
-    address: u64,
-    cycle: u64,
-    target: u8,
-    value: u64,
-) -> usize
+pub fn passed(text: &[u8], at: usize, line: Line) -> usize
     requires { at ≤ length text.now }
-    ensures { result ≡ cond (begins_of (trace_line number address cycle target value) (drop at text.now))
-        (at + length (trace_line number address cycle target value)) at }
+    ensures { result ≡ cond (begins_of (trace_line line.number line.address line.cycle line.target line.value) (drop at text.now))
+        (at + length (trace_line line.number line.address line.cycle line.target line.value)) at }
 {
-    let mut line = [0u8; 88];
-    let length = put_line(&mut line, 0, number, address, cycle, target, value);
-    if begins(&line[..length], &text[at..]) {
+    let mut buffer = [0u8; 88];
+    let length = write_line(line, &mut buffer);
+    if begins(&buffer[..length], &text[at..]) {
         at + length
     } else {
         at

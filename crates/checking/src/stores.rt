@@ -1,9 +1,8 @@
 // The stores of the three instructions before one, and whether one of them wrote into it.
-ghost use Rattle.std.specs.Prelude.{◌≡◌, ◌&&◌, ◌||◌, ◌+◌, ◌≤◌, ◌<◌, ltb, length};
+ghost use Rattle.std.specs.Prelude.{◌≡◌, ◌≤◌, length};
 ghost use Rattle.machine.specs.Memory.{lent};
 ghost use Rattle.checking.specs.Stores.{store_by, hits as hits_of, touched_by, written_by};
 
-use lookup::numbers::{STORES_A, STORES_NEXT};
 use lookup::{accesses_of, size_of};
 use machine::{Executed, Window};
 
@@ -27,22 +26,11 @@ pub fn store_of(x: Executed, memory: &[u8]) -> Store
     ensures { result ≡ store_by x (lent memory.now) }
 {
     let i = x.instruction;
-    let kind = accesses_of(i.code);
-    let stores = (kind == STORES_A) | (kind == STORES_NEXT);
+    let stores = accesses_of(i.code).stores();
     Store {
         writes: stores & word::inside(memory, x.result),
         at: x.result,
     }
-}
-
-// The word at a reaches the address or goes past it; no sum is made that could wrap.
-fn reaches(a: u64, address: u64) -> bool
-    ensures { result ≡ ltb address (a + 8) }
-{
-    if address < a {
-        return true;
-    }
-    address - a < 8
 }
 
 // A byte of the word stored is one from the address up to the end, below n.
@@ -50,7 +38,7 @@ fn hits(store: Store, address: u64, end: u64, n: u64) -> bool
     ensures { result ≡ hits_of store address end n }
 {
     let at = store.at;
-    store.writes & ((at < end) & (reaches(at, address) & ((at < n) & (address < n))))
+    store.writes & ((at < end) & (word::reaches(at, address) & ((at < n) & (address < n))))
 }
 
 // One of the three wrote a byte of the instruction at the address.

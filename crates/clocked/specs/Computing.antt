@@ -20,7 +20,7 @@ unfolding
     Pipeline.last_after Pipeline.retired_after Pipeline.kinds_after Pipeline.kept_after Pipeline.logged Pipeline.advanced Pipeline.stopped_in
     Pipeline.clock_by Pipeline.clock Pipeline.clocks
     Premise.writes_byte Premise.has_byte
-    PipeRuns.instruction_refused PipeRuns.refused_in_d PipeRuns.refused_in_e PipeRuns.refused_in_m PipeRuns.refused_in_w PipeRuns.refused_kept
+    PipeRuns.instruction_refused PipeRuns.refused_in PipeRuns.refused_in_d PipeRuns.refused_in_e PipeRuns.refused_in_m PipeRuns.refused_in_w PipeRuns.refused_kept
     PipeRuns.counts_refused PipeRuns.settings_refused PipeRuns.record_refused PipeRuns.pipe_start_refusal PipeRuns.pipe_started PipeRuns.pipe_refusal
     PipeRuns.pipe_done PipeRuns.pipe_by PipeRuns.pipe_run PipeRuns.pipe_run_unlogged PipeRuns.pipe_clock
 computing = tt

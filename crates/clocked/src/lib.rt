@@ -1,8 +1,8 @@
-// The pipelined engine's limit and its types. What they mean, document 01's five-stage rules, is in specs/.
+// The pipelined engine's limit and its types, and what these carry. What they mean, document 01's five-stage rules, is in specs/.
 
 #![tactic(auto)]
 
-ghost use Rattle.std.specs.Prelude.{◌≡◌};
+ghost use Rattle.std.specs.Prelude.{◌≡◌, ℕ, Bool};
 ghost use Rattle.machine.specs.declared.Instruction.{Instruction as InstructionOf};
 
 use machine::{Accessed, Blame, Codes, Decoded, Executed, Instruction, REGISTERS, Status, Window};
@@ -125,5 +125,46 @@ impl Carries for Retired {
 
     fn instruction(self) -> Instruction {
         self.instruction
+    }
+}
+
+// What has been executed carries its result too, and whether its condition holds.
+pub trait Finished: Carries {
+    ghost result_of: { Self → ℕ };
+
+    ghost holds_of: { Self → Bool };
+
+    fn result(self) -> u64
+        ensures { result ≡ result_of self };
+
+    fn holds(self) -> bool
+        ensures { result ≡ holds_of self };
+}
+
+impl Finished for Executed {
+    ghost result_of = { λ x. x.result };
+
+    ghost holds_of = { λ x. x.holds };
+
+    fn result(self) -> u64 {
+        self.result
+    }
+
+    fn holds(self) -> bool {
+        self.holds
+    }
+}
+
+impl Finished for Accessed {
+    ghost result_of = { λ w. w.result };
+
+    ghost holds_of = { λ w. w.holds };
+
+    fn result(self) -> u64 {
+        self.result
+    }
+
+    fn holds(self) -> bool {
+        self.holds
     }
 }

@@ -3,91 +3,39 @@ use Prim.Native.Nat.{ℕ, ◌-◌, ◌≤◌}
 use native.Mathlib.Omega.{arith}
 use mathlib.Core.Bool.{Bool, true, false}
 use mathlib.Core.List.{List, [], ◌++◌, append-nil}
-use mathlib.Core.Path.{◌≡◌, sym, ap, subst, ◌∙◌}
-use lib.Dec.{T}
+use mathlib.Core.Path.{◌≡◌, sym, ap, ◌∙◌}
 use lib.ListN.{length, take, drop, length-drop, drop_of_length-le}
 use lib.Seq.{take-length}
 use borrow.Rule.Slice.PartMut.{mid_of, put_mid, Post-is}
 use Rattle.clocked.specs.declared.Pipeline.{Pipeline}
-use Rattle.machine.specs.Memory.{Memory, lent}
+use Rattle.machine.specs.Memory.{lent}
 use Rattle.clocked.specs.PipeRuns.{pipe_answer}
-use Rattle.peaks.specs.declared.Comparison.{Comparison}
-use Rattle.peaks.specs.declared.Raw.{Raw}
-use Rattle.peaks.specs.declared.Found.{Found}
-use Rattle.peaks.specs.declared.Found.TheVariants.{NoGoodSample as no_good_sample, GoodSamples as good_samples}
 use Rattle.peaks.specs.declared.Day.{Day}
-use Rattle.peaks.specs.declared.Answer.{Answer}
-use Rattle.peaks.specs.declared.Answer.TheVariants.{Refused as refused, Judged as judged_as}
-use Rattle.peaks.specs.Day.{mean_bits, judged}
-use Rattle.peaks.specs.Division.{mean_is_number, judged_number}
+use Rattle.peaks.specs.declared.Refusal.{Refusal}
+use Rattle.peaks.specs.Types.{refusal_number}
+use Rattle.peaks.specs.Day.{judged}
+use Rattle.std.specs.Prelude.{Result, Ok, Err}
 use Rattle.report_lines.specs.Lines.{number_line}
 use Rattle.report.specs.Report.{image_refused, image_run}
-use Rattle.text.specs.Put.{Put, put_both, put_front, written}
+use Rattle.text.specs.Put.{written}
 use Rattle.dayreport.specs.declared.line.Request.{Request}
-use Rattle.dayreport.specs.declared.line.FirstLine.{FirstLine}
-use Rattle.dayreport.specs.declared.line.FirstLine.TheVariants.{BadLine as bad_line, Asks as asks}
-use Rattle.dayreport.specs.Line.{first_line}
-use Rattle.dayreport.specs.Lines.{filed_line, peak_lines, total_lines, found_lines, missing, missing_lines, lines_of, day_lines, answer_lines}
-use Rattle.dayreport.specs.Program.{answer_numbered, day_answer, request_text, requested, input_text, input_left}
+use Rattle.std.specs.Prelude.{None as bad_line, Some as asks}
+use Rattle.dayreport.specs.Line.{FirstLine, first_line}
+use Rattle.dayreport.specs.Lines.{day_lines, answer_lines}
+use Rattle.dayreport.specs.Program.{day_answer, request_text, requested, input_text, input_left}
 use Rattle.dayreport.specs.Program.{written_for, answered_input}
 
--- LINES
-module _ {a b c : List ℕ} {at i r : ℕ} where
-  pub peak : (raw : Raw) → Put (number_line "peak" raw.peak) at a i b → Put (number_line "place" raw.place) i b r c → Put (peak_lines raw) at a r c
-  unfolding peak_lines
-  peak raw x y = put_both x y
-
-  pub totals : (day : Day) → Put (number_line "failed" day.failed) at a i b → Put (number_line "sum" day.sum) i b r c → Put (total_lines day) at a r c
-  unfolding total_lines
-  totals day x y = put_both x y
-
-pub missed : {a b c d : List ℕ} {at i j r : ℕ} (day : Day) → Put (missing "peak" ++ missing "place") at a i b → Put (total_lines day) i b j c
-    → Put (missing "mean" ++ missing "filed") j c r d → Put (missing_lines day) at a r d
-unfolding missing_lines
-missed day x y z = put_both (put_both x y) z
-
-pub found : {a b c d e : List ℕ} {at i j k r : ℕ} (day : Day) (raw : Raw) (bits : ℕ) → bits ≡ mean_bits raw.mean → Put (peak_lines raw) at a i b
-    → Put (total_lines day) i b j c
-    → Put (number_line "mean" bits) j c k d → Put (filed_line raw.filed) k d r e → Put (found_lines day raw) at a r e
-unfolding found_lines
-found day raw bits h x y z w = put_both (put_both (put_both x y) (rw h at z)) w
-
-module _ {a b : List ℕ} {at r : ℕ} where
-  pub filed_line_lem : (s t : Comparison) → s ≡ t → Put (filed_line t) at a r b → Put (filed_line s) at a r b
-  filed_line_lem s t e x = subst (λ (u : Comparison). Put (filed_line u) at a r b) (sym e) x
-
-  pub day_missed : (day : Day) → day.found ≡ no_good_sample → Put (missing_lines day) at a r b → Put (day_lines day) at a r b
-  unfolding day_lines lines_of
-  day_missed day e x = subst (λ (f : Found). Put (lines_of day f) at a r b) (sym e) x
-
-  pub day_found : (day : Day) (raw : Raw) → day.found ≡ good_samples raw → Put (found_lines day raw) at a r b → Put (day_lines day) at a r b
-  unfolding day_lines lines_of
-  day_found day raw e x = subst (λ (f : Found). Put (lines_of day f) at a r b) (sym e) x
-
--- a text of at most 144 bytes stands whole in the buffer
-pub whole : {t a b : List ℕ} {r : ℕ} → Put t 0 a r b → r ≤ 144 → length a ≡ 144 → ◌≡◌ {A = ℕ × List ℕ} (r, b) (written t a)
-whole p l h = put_front p (omega (arith, p.place))
-
 -- THE ANSWER
-module _ (a : Answer) (out : List ℕ) {b : List ℕ} {r : ℕ} where
-  pub answer_refused : (k : ℕ) → a ≡ refused k → ◌≡◌ {A = ℕ × List ℕ} (r, b) (written (number_line "refused" k) out)
+module _ (a : Result Day Refusal) (out : List ℕ) {b : List ℕ} {r : ℕ} where
+  pub answer_refused : (k : Refusal) (n : ℕ) → a ≡ Err k → n ≡ refusal_number k → ◌≡◌ {A = ℕ × List ℕ} (r, b) (written (number_line "refused" n) out)
       → ◌≡◌ {A = ℕ × List ℕ} (r, b) (written (answer_lines a) out)
   unfolding answer_lines
-  answer_refused k e x = rw e x
+  answer_refused k n e f x = rw (e, ← f) x
 
-  pub answer_day : (d : Day) → a ≡ judged_as d → ◌≡◌ {A = ℕ × List ℕ} (r, b) (written (day_lines d) out)
+  pub answer_day : (d : Day) → a ≡ Ok d → ◌≡◌ {A = ℕ × List ℕ} (r, b) (written (day_lines d) out)
       → ◌≡◌ {A = ℕ × List ℕ} (r, b) (written (answer_lines a) out)
   unfolding answer_lines
   answer_day d e x = rw e x
-
-pub day_numbered : (a : Answer) (d : Day) → a ≡ judged_as d → T (answer_numbered a) → T (mean_is_number d.found)
-unfolding answer_numbered
-day_numbered a d e h = rw e at h
-
-pub judged_numbered : (a : Answer) (m : Memory) (table n filed : ℕ) → a ≡ judged m table n filed → T (answer_numbered a)
-unfolding answer_numbered
-judged_numbered (refused k) m table n filed h = tt
-judged_numbered (judged_as d) m table n filed h = judged_number m table n filed d (sym h)
 
 -- THE REQUEST
 module _ (q : Request) (image out : List ℕ) (i : Bool) (h : i ≡ image_refused (length image)) {b : List ℕ} {r : ℕ} where
@@ -96,7 +44,7 @@ module _ (q : Request) (image out : List ℕ) (i : Bool) (h : i ≡ image_refuse
   unfolding requested request_text image_run
   request_refused t e = rw (sym h ∙ t) (ap (λ (x : ℕ × List ℕ). (x.0, x.1, image)) e)
 
-  pub request_done : (n : ℕ) (p : Pipeline) (image' : List ℕ) (a : Answer) → i ≡ false → pipe_answer n p (lent image') [] [] ≡ image_run image
+  pub request_done : (n : ℕ) (p : Pipeline) (image' : List ℕ) (a : Result Day Refusal) → i ≡ false → pipe_answer n p (lent image') [] [] ≡ image_run image
       → a ≡ judged (lent image') q.table q.length q.filed
       → ◌≡◌ {A = ℕ × List ℕ} (r, b) (written (answer_lines a) out) → ◌≡◌ {A = ℕ × List ℕ × List ℕ} (r, b, image') (requested q image out)
   unfolding requested request_text day_answer

@@ -1,16 +1,14 @@
 -- #114: "writes `peak`, `place`, `failed`, `sum`, `mean` (its 64 bits) and `filed` (below, at, above), each a tab-parted line in that order,
 -- numbers in decimal, a dash for what is missing; or `refused` and the number".
 use Prim.Native.String.{String}
-use Rattle.std.specs.Prelude.{ℕ, List, ◌++◌}
+use Rattle.std.specs.Prelude.{ℕ, List, ◌++◌, Option, None, Some, Result, Ok, Err}
 use Rattle.peaks.specs.declared.Comparison.{Comparison}
 use Rattle.peaks.specs.declared.Comparison.TheVariants.{Below as below, At as at, Above as above, NotComparable as not_comparable}
-use Rattle.peaks.specs.declared.Raw.{Raw}
-use Rattle.peaks.specs.declared.Found.{Found}
-use Rattle.peaks.specs.declared.Found.TheVariants.{NoGoodSample as no_good_sample, GoodSamples as good_samples}
 use Rattle.peaks.specs.declared.Day.{Day}
-use Rattle.peaks.specs.declared.Answer.{Answer}
-use Rattle.peaks.specs.declared.Answer.TheVariants.{Refused as refused, Judged as judged_as}
-use Rattle.peaks.specs.Day.{mean_bits}
+use Rattle.peaks.specs.declared.Refusal.{Refusal}
+use Rattle.peaks.specs.declared.raw.Raw.{Raw}
+use Rattle.peaks.specs.Types.{refusal_number}
+use Rattle.peaks.specs.Mean.{mean_bits}
 use Rattle.report_lines.specs.Lines.{line, number_line}
 use Rattle.text.specs.Bytes.{bytes}
 
@@ -39,13 +37,13 @@ missing name = line (bytes name) (bytes "-")
 unfoldable pub missing_lines : Day → List ℕ
 missing_lines d = (missing "peak" ++ missing "place") ++ total_lines d ++ (missing "mean" ++ missing "filed")
 
-unfoldable pub lines_of : Day → Found → List ℕ
-lines_of d no_good_sample = missing_lines d
-lines_of d (good_samples raw) = found_lines d raw
+unfoldable pub lines_of : Day → Option Raw → List ℕ
+lines_of d None = missing_lines d
+lines_of d (Some raw) = found_lines d raw
 
 unfoldable pub day_lines : Day → List ℕ
 day_lines d = lines_of d d.found
 
-unfoldable pub answer_lines : Answer → List ℕ
-answer_lines (refused k) = number_line "refused" k
-answer_lines (judged_as d) = day_lines d
+unfoldable pub answer_lines : Result Day Refusal → List ℕ
+answer_lines (Err r) = number_line "refused" (refusal_number r)
+answer_lines (Ok d) = day_lines d

@@ -1,24 +1,17 @@
 -- #114, "A second program": what y86peaks answers, whatever bytes it read.
-use Rattle.std.specs.Prelude.{ℕ, Bool, true, cond, List, ◌++◌, length, take, drop}
-use Rattle.peaks.specs.declared.Answer.{Answer}
-use Rattle.peaks.specs.declared.Answer.TheVariants.{Refused as refused, Judged as judged_as}
+use Rattle.std.specs.Prelude.{ℕ, cond, List, Result, ◌++◌, length, take, drop}
+use Rattle.peaks.specs.declared.Day.{Day}
+use Rattle.peaks.specs.declared.Refusal.{Refusal}
 use Rattle.peaks.specs.Day.{judged}
-use Rattle.peaks.specs.Division.{mean_is_number}
 use Rattle.report_lines.specs.Lines.{number_line}
 use Rattle.report.specs.Report.{image_refused, image_run}
 use Rattle.dayreport.specs.declared.line.Request.{Request}
-use Rattle.dayreport.specs.declared.line.FirstLine.{FirstLine}
-use Rattle.dayreport.specs.declared.line.FirstLine.TheVariants.{BadLine as bad_line, Asks as asks}
-use Rattle.dayreport.specs.Line.{first_line}
+use Rattle.std.specs.Prelude.{None as bad_line, Some as asks}
+use Rattle.dayreport.specs.Line.{FirstLine, first_line}
 use Rattle.dayreport.specs.Lines.{answer_lines}
 
--- the mean of an answer, where it has one, is a number
-unfoldable pub answer_numbered : Answer → Bool
-answer_numbered (refused k) = true
-answer_numbered (judged_as d) = mean_is_number d.found
-
 -- THE DAY of the final memory of the pipelined run
-unfoldable pub day_answer : Request → List ℕ → Answer
+unfoldable pub day_answer : Request → List ℕ → Result Day Refusal
 day_answer q image = judged (image_run image).memory q.table q.length q.filed
 
 -- the bytes written for a request and the image behind it; "5 for an image that 01's refusal 1 meets": one that the first program refuses

@@ -5,33 +5,41 @@
 mod line;
 mod lines;
 
-ghost use Rattle.std.specs.Prelude.{◌≡◌, cond, List, ℕ, ◌≤◌, T, length};
-ghost use Rattle.machine.specs.Memory.{lent};
-ghost use Rattle.peaks.specs.Division.{mean_is_number};
+ghost use Rattle.std.specs.Prelude.{◌≡◌, List, ℕ};
 ghost use Rattle.report_lines.specs.Lines.{number_line};
 ghost use Rattle.text.specs.Put.{written};
-ghost use Rattle.dayreport.specs.Lines.{answer_lines};
-ghost use Rattle.dayreport.specs.Program.{answer_numbered, requested, answered_input};
+ghost use Rattle.dayreport.specs.Lines.{day_lines, answer_lines};
+ghost use Rattle.dayreport.specs.Program.{requested, answered_input};
 
-use crate::line::{FirstLine, Request, read_line};
+use crate::line::{Request, read_line};
 use crate::lines::put_day;
-use peaks::Answer;
+use peaks::{Day, Refusal};
 use report_lines::put_number;
+use text::Writer;
 
 // No answer is longer than 144 bytes, so that it always fits.
 fn write_refusal(number: u64, out: &mut [u8; 144]) -> usize
     ensures { ◌≡◌ {A = ℕ × List ℕ} (result, out.new) (written (number_line "refused" number) out.old) }
 {
-    put_number(out, 0, b"refused", number)
+    let mut writer = Writer::new(out);
+    put_number(&mut writer, b"refused", number);
+    writer.length()
 }
 
-fn write_answer(answer: Answer, out: &mut [u8; 144]) -> usize
-    requires { T (answer_numbered answer) }
+fn write_day(day: Day, out: &mut [u8; 144]) -> usize
+    ensures { ◌≡◌ {A = ℕ × List ℕ} (result, out.new) (written (day_lines day) out.old) }
+{
+    let mut writer = Writer::new(out);
+    put_day(&mut writer, day);
+    writer.length()
+}
+
+fn write_answer(answer: Result<Day, Refusal>, out: &mut [u8; 144]) -> usize
     ensures { ◌≡◌ {A = ℕ × List ℕ} (result, out.new) (written (answer_lines answer) out.old) }
 {
     match answer {
-        Answer::Refused(number) => write_refusal(number, out),
-        Answer::Judged(day) => put_day(out, 0, day),
+        Err(refusal) => write_refusal(refusal.into(), out),
+        Ok(day) => write_day(day, out),
     }
 }
 
@@ -54,12 +62,8 @@ fn report_request(request: Request, image: &mut [u8], out: &mut [u8; 144]) -> us
 pub fn report_input(input: &mut [u8], out: &mut [u8; 144]) -> usize
     ensures { ◌≡◌ {A = ℕ × List ℕ × List ℕ} (result, out.new, input.new) (answered_input input.old out.old) }
 {
-    let first = read_line(input);
-    match first {
-        FirstLine::BadLine => write_refusal(4, out),
-        FirstLine::Asks(request) => {
-            let at = request.image;
-            report_request(request, &mut input[at..], out)
-        }
+    match read_line(input) {
+        None => write_refusal(4, out),
+        Some(request) => report_request(request, &mut input[request.image..], out),
     }
 }

@@ -2,7 +2,7 @@
 ghost use Rattle.std.specs.Prelude.{◌≡◌};
 ghost use Rattle.dayreport.specs.Line.{first_line};
 
-use text::{Field, read_field};
+use text::read_field;
 
 // What is asked for, and the place behind the line, where the image begins.
 #[derive(Clone, Copy)]
@@ -13,28 +13,15 @@ pub struct Request {
     pub image: usize,
 }
 
-#[derive(Clone, Copy)]
-pub enum FirstLine {
-    BadLine,
-    Asks(Request),
-}
-
-pub fn read_line(input: &[u8]) -> FirstLine
+#[tactic(auto, unfolding(crate::specs::Line::first_line, crate::specs::Line::first_of, crate::specs::Line::second_of, crate::specs::Line::third_of))]
+// None is a bad first line.
+pub fn read_line(input: &[u8]) -> Option<Request>
     ensures { result ≡ first_line input.now }
 {
-    let first = read_field(input, 0, b'\t');
-    let Field::Number(table, a) = first else {
-        return FirstLine::BadLine;
-    };
-    let second = read_field(input, a, b'\t');
-    let Field::Number(length, b) = second else {
-        return FirstLine::BadLine;
-    };
-    let third = read_field(input, b, b'\n');
-    let Field::Number(filed, image) = third else {
-        return FirstLine::BadLine;
-    };
-    FirstLine::Asks(Request {
+    let (table, a) = read_field(input, 0, b'\t')?;
+    let (length, b) = read_field(input, a, b'\t')?;
+    let (filed, image) = read_field(input, b, b'\n')?;
+    Some(Request {
         table,
         length,
         filed,

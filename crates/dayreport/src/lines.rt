@@ -1,76 +1,63 @@
 // The six lines of a day.
-ghost use Rattle.std.specs.Prelude.{not, ◌+◌, ◌^◌, ◌≤◌, ◌<◌, T};
-ghost use Rattle.std.specs.Float.Ieee.{is_nan};
-ghost use Rattle.peaks.specs.Division.{mean_is_number};
+ghost use Rattle.std.specs.Prelude.{◌≤◌, length};
 ghost use Rattle.text.specs.Put.{Put};
 ghost use Rattle.dayreport.specs.Lines.{filed_line, peak_lines, total_lines, found_lines, missing_lines, day_lines};
 
-use peaks::{Comparison, Day, Found, Raw};
+use peaks::{Comparison, Day, Raw};
 use report_lines::put_number;
-use text::put_text;
+use text::Writer;
 
-fn put_filed(buffer: &mut [u8], at: usize, c: Comparison) -> usize
-    requires { at + 12 < 2 ^ 64 }
-    ensures put { Put (filed_line c) at buffer.old result buffer.new }
-    ensures upper_bound { result ≤ at + 12 }
+fn put_filed(out: &mut Writer<'_>, c: Comparison)
+    ensures { Put (filed_line c) out.old out.new }
 {
     match c {
-        Comparison::Below => put_text(buffer, at, b"filed\tbelow\n"),
-        Comparison::At => put_text(buffer, at, b"filed\tat\n"),
-        Comparison::Above => put_text(buffer, at, b"filed\tabove\n"),
-        Comparison::NotComparable => put_text(buffer, at, b"filed\t-\n"),
+        Comparison::Below => out.text(b"filed\tbelow\n"),
+        Comparison::At => out.text(b"filed\tat\n"),
+        Comparison::Above => out.text(b"filed\tabove\n"),
+        Comparison::NotComparable => out.text(b"filed\t-\n"),
     }
 }
 
-fn put_peak(buffer: &mut [u8], at: usize, raw: Raw) -> usize
-    requires { at + 53 < 2 ^ 64 }
-    ensures put { Put (peak_lines raw) at buffer.old result buffer.new }
-    ensures upper_bound { result ≤ at + 53 }
+fn put_peak(out: &mut Writer<'_>, raw: Raw)
+    ensures { Put (peak_lines raw) out.old out.new }
 {
-    let a = put_number(buffer, at, b"peak", raw.peak);
-    put_number(buffer, a, b"place", raw.place)
+    put_number(out, b"peak", raw.peak);
+    put_number(out, b"place", raw.place);
 }
 
-fn put_totals(buffer: &mut [u8], at: usize, day: Day) -> usize
-    requires { at + 53 < 2 ^ 64 }
-    ensures put { Put (total_lines day) at buffer.old result buffer.new }
-    ensures upper_bound { result ≤ at + 53 }
+fn put_totals(out: &mut Writer<'_>, day: Day)
+    ensures { Put (total_lines day) out.old out.new }
 {
-    let a = put_number(buffer, at, b"failed", day.failed);
-    put_number(buffer, a, b"sum", day.sum)
+    put_number(out, b"failed", day.failed);
+    put_number(out, b"sum", day.sum);
 }
 
-fn put_found(buffer: &mut [u8], at: usize, day: Day, raw: Raw) -> usize
-    requires { (at + 144 < 2 ^ 64) × T (not (is_nan raw.mean)) }
-    ensures put { Put (found_lines day raw) at buffer.old result buffer.new }
-    ensures upper_bound { result ≤ at + 144 }
+// The mean's bits are a word, so that the lines are short.
+fn put_found(out: &mut Writer<'_>, day: Day, raw: Raw)
+    ensures put { Put (found_lines day raw) out.old out.new }
+    ensures short { length (found_lines day raw) ≤ 144 }
 {
-    let filed = raw.filed;
-    let a = put_peak(buffer, at, raw);
-    let b = put_totals(buffer, a, day);
-    let c = put_number(buffer, b, b"mean", peaks::mean_bits(raw));
-    put_filed(buffer, c, filed)
+    put_peak(out, raw);
+    put_totals(out, day);
+    put_number(out, b"mean", raw.mean_bits());
+    put_filed(out, raw.filed);
 }
 
 // A dash for what is missing.
-fn put_missing(buffer: &mut [u8], at: usize, day: Day) -> usize
-    requires { at + 144 < 2 ^ 64 }
-    ensures put { Put (missing_lines day) at buffer.old result buffer.new }
-    ensures upper_bound { result ≤ at + 144 }
+fn put_missing(out: &mut Writer<'_>, day: Day)
+    ensures { Put (missing_lines day) out.old out.new }
 {
-    let a = put_text(buffer, at, b"peak\t-\nplace\t-\n");
-    let b = put_totals(buffer, a, day);
-    put_text(buffer, b, b"mean\t-\nfiled\t-\n")
+    out.text(b"peak\t-\nplace\t-\n");
+    put_totals(out, day);
+    out.text(b"mean\t-\nfiled\t-\n");
 }
 
-pub fn put_day(buffer: &mut [u8], at: usize, day: Day) -> usize
-    requires { (at + 144 < 2 ^ 64) × T (mean_is_number day.found) }
-    ensures put { Put (day_lines day) at buffer.old result buffer.new }
-    ensures upper_bound { result ≤ at + 144 }
+pub fn put_day(out: &mut Writer<'_>, day: Day)
+    ensures put { Put (day_lines day) out.old out.new }
+    ensures short { length (day_lines day) ≤ 144 }
 {
-    let found = day.found;
-    match found {
-        Found::NoGoodSample => put_missing(buffer, at, day),
-        Found::GoodSamples(raw) => put_found(buffer, at, day, raw),
+    match day.found {
+        None => put_missing(out, day),
+        Some(raw) => put_found(out, day, raw),
     }
 }

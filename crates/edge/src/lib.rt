@@ -16,6 +16,7 @@ ghost use Rattle.replay_ends.specs.Ends.{numbers};
 use crate::replaying::replay;
 use answers::Refusal;
 use block::write_words;
+use encoding::Fields;
 use replay_ends::settings::Numbers;
 use replay_ends::{Request, full_words, result_words};
 
@@ -155,7 +156,14 @@ pub fn y86_encode(
     ensures { written result bytes.new length.new
         ≡ encoded bytes.old length.old (fields code function ra rb constant) }
 {
-    writing_edge::encode(bytes, length, code, function, ra, rb, constant)
+    let said = Fields {
+        code,
+        function,
+        ra,
+        rb,
+        constant,
+    };
+    writing_edge::encode(bytes, length, said)
 }
 
 // The listing of memory from a start up to an end, one instruction a line (#104).

@@ -1,38 +1,21 @@
 -- One law for each way out of a function. Assumes nothing.
-use mathlib.Core.Path.{◌≡◌, refl, ap, sym, subst}
-use mathlib.Core.Bool.{Bool, true, false, cond, ◌&&◌, ◌||◌}
-use mathlib.Core.List.{List, [], ◌∷◌}
-use Prim.Native.Nat.{ℕ, ◌+◌, ◌*◌, ◌≤◌, ◌<◌}
+use mathlib.Core.Path.{◌≡◌, refl, ap, sym, ◌∙◌}
+use mathlib.Core.Bool.{Bool, true, false, ◌&&◌, ◌||◌}
+use mathlib.Core.List.{[], ◌∷◌}
+use Prim.Native.Nat.{ℕ, zero, suc, ◌+◌, ◌*◌, ◌/◌, ◌%◌, ◌^◌, ◌≤◌, ◌<◌}
+use Rattle.std.proofs.Math.Nat.{div-div-eq-div-mul}
+use Rattle.std.proofs.Common.{pow-suc}
 use native.Mathlib.Nat.{lt_of_not-le}
 use native.Mathlib.Omega.{arith}
-use lib.Dec.{T, eqb, ltb, leb}
-use lib.ListN.{replicate}
-use borrow.Author.Tests.{le-leb, lt-leb, le-ltb, lt-ltb, leb-false}
-use Rattle.machine.specs.Words.{placed}
-use Rattle.machine.specs.Memory.{Memory, lent, inside, store}
-use Rattle.machine.specs.Table.{RegisterByte, no_byte, both_named, only_b, only_a, row_of, unknown_code}
+use lib.Dec.{T, ltb, leb}
+use borrow.Author.Tests.{le-leb, lt-leb, leb-false}
+use Rattle.machine.specs.Table.{RegisterByte, row_of, unknown_code}
 use Rattle.machine.specs.Fetch.{names_a, names_b, half}
 use Rattle.laws.specs.Tests.{neither}
 use Rattle.published.specs.Lengths.{no_functions}
-use Rattle.lookup.specs.Numbers.{byte_number}
-use Rattle.text.specs.Put.{Put, put_nothing, put_both}
-use Rattle.encoding.specs.Encode.{Fields, encode_refused, least_first, pair, tail, form}
+use Rattle.std.specs.Int.{w64, byte_at, bytes_low_first, to_le_bytes}
+use Rattle.encoding.specs.Encode.{Fields, encode_refused, least_first, pair}
 use Rattle.encoding.specs.Back.{a_small, b_small, function_small}
-
--- WHICH HALVES name a register, by the number of the register byte
-pub named_a : (y : RegisterByte) (n : ℕ) → n ≡ byte_number y → eqb n 1 || eqb n 3 ≡ names_a y
-unfolding byte_number names_a
-named_a no_byte n e = rw e
-named_a both_named n e = rw e
-named_a only_b n e = rw e
-named_a only_a n e = rw e
-
-pub named_b : (y : RegisterByte) (n : ℕ) → n ≡ byte_number y → eqb n 1 || eqb n 2 ≡ names_b y
-unfolding byte_number names_b
-named_b no_byte n e = rw e
-named_b both_named n e = rw e
-named_b only_b n e = rw e
-named_b only_a n e = rw e
 
 -- REFUSAL 5
 module _ (i : Fields) where
@@ -43,10 +26,10 @@ module _ (i : Fields) where
   pub no_such_code : 16 ≤ i.code → true ≡ encode_refused i
   no_such_code h = no_such_function 0 (sym (no_functions i.code (omega arith))) (omega arith)
 
-  pub by_registers : (n : ℕ) (a b : Bool) → n ≡ (row_of i.code).functions → i.function < n → a ≡ names_a (row_of i.code).byte
-      → b ≡ names_b (row_of i.code).byte → (a && ltb 14 i.ra) || (b && ltb 14 i.rb) ≡ encode_refused i
+  pub by_registers : (n : ℕ) (y : RegisterByte) (a b : Bool) → n ≡ (row_of i.code).functions → i.function < n → y ≡ (row_of i.code).byte → a ≡ names_a y
+      → b ≡ names_b y → (a && ltb 14 i.ra) || (b && ltb 14 i.rb) ≡ encode_refused i
   unfolding encode_refused
-  by_registers n a b e h p q = cc (lt-leb (row_of i.code).functions i.function (omega arith))
+  by_registers n y a b e h f p q = cc (lt-leb (row_of i.code).functions i.function (omega arith))
 
 half_small : (t : Bool) (x : ℕ) → (T t → x < 15) → half t x < 16
 unfolding half
@@ -73,38 +56,33 @@ small i valid =
     }
 
 -- THE REGISTER BYTE
-module _ (y : RegisterByte) (ra rb : ℕ) (s t : Bool) (hs : s ≡ names_a y) (ht : t ≡ names_b y) where
+module _ (y z : RegisterByte) (is : z ≡ y) (ra rb : ℕ) (s t : Bool) (hs : s ≡ names_a z) (ht : t ≡ names_b z) where
   pub pair_small : (high low : ℕ) → high ≡ half s ra → low ≡ half t rb → half (names_a y) ra < 16 → half (names_b y) rb < 16 → 16 * high + low < 256
   pair_small high low p q h l =
       let x : half s ra ≡ half (names_a y) ra = cc in
       let z : half t rb ≡ half (names_b y) rb = cc in
       omega arith
 
-  pub one_pair : {a b : List ℕ} {at r : ℕ} (high low : ℕ) → s || t ≡ true → high ≡ half s ra → low ≡ half t rb → Put ((16 * high + low) ∷ []) at a r b → Put (pair y ra rb) at a r b
+  pub one_pair : (high low : ℕ) → s || t ≡ true → high ≡ half s ra → low ≡ half t rb → (16 * high + low) ∷ [] ≡ pair y ra rb
   unfolding pair
-  one_pair {a} {b} {at} {r} high low e p q x =
-      let f : (16 * high + low) ∷ [] ≡ cond (names_a y || names_b y) ((16 * half (names_a y) ra + half (names_b y) rb) ∷ []) [] = cc in
-      subst (λ (l : List ℕ). Put l at a r b) f x
+  one_pair high low e p q = cc
 
-  pub no_pair : (at : ℕ) (a : List ℕ) → s || t ≡ false → Put (pair y ra rb) at a at a
+  pub no_pair : s || t ≡ false → [] ≡ pair y ra rb
   unfolding pair
-  no_pair at a e =
-      let f : ◌≡◌ {A = List ℕ} [] (cond (names_a y || names_b y) ((16 * half (names_a y) ra + half (names_b y) rb) ∷ []) []) = cc in
-      subst (λ (l : List ℕ). Put l at a at a) f (put_nothing at a)
+  no_pair e = cc
 
--- THE FORM
--- a word in eight bytes that were 0
-pub word_bytes : (w : List ℕ) (v : ℕ) → lent w ≡ store (lent (replicate 8 0)) 0 v → w ≡ least_first 8 v
-unfolding store inside placed least_first
-word_bytes w v e = ap (λ (m : Memory). m.bytes) e
+-- THE CONSTANT: its bytes as the library gives them
+low_first : (i k n : ℕ) → bytes_low_first i k n ≡ least_first k (n / 256 ^ i)
+unfolding least_first
+low_first i zero n = refl
+low_first i (suc k) n =
+    let first : byte_at i n ≡ n / 256 ^ i % 256 = byte_is i in
+    let next : n / 256 ^ suc i ≡ n / 256 ^ i / 256 = rw (pow-suc 256 i, ← div-div-eq-div-mul n (256 ^ i) 256) refl in
+    cc (low_first (suc i) k n)
+  where
+    byte_is : (j : ℕ) → byte_at j n ≡ n / 256 ^ j % 256
+    byte_is zero = omega arith
+    byte_is (suc j) = refl
 
-module _ (i : Fields) (n : ℕ) (size : n ≡ (row_of i.code).size) {a b c : List ℕ} {at r s : ℕ} where
-  pub short_form : n ≤ 8 → Put ((16 * i.code + i.function) ∷ []) at a r b → Put (pair (row_of i.code).byte i.ra i.rb) r b s c → Put (form i) at a s c
-  unfolding form tail
-  short_form h x y = rw (le-ltb 8 (row_of i.code).size (omega arith)) (put_both x (put_both y (put_nothing s c)))
-
-  pub long_form : {d : List ℕ} {q : ℕ} (w : List ℕ) → 8 < n → lent w ≡ store (lent (replicate 8 0)) 0 i.constant → Put ((16 * i.code + i.function) ∷ []) at a r b
-      → Put (pair (row_of i.code).byte i.ra i.rb) r b s c → Put w s c q d → Put (form i) at a q d
-  unfolding form tail
-  long_form {d} {q} w h e x y z =
-      rw (lt-ltb 8 (row_of i.code).size (omega arith)) (put_both x (put_both y (subst (λ (l : List ℕ). Put l s c q d) (word_bytes w i.constant e) z)))
+pub constant_bytes : (v : ℕ) → to_le_bytes w64 v ≡ least_first 8 v
+constant_bytes v = low_first 0 8 v ∙ ap (least_first 8) (omega arith)

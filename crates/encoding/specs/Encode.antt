@@ -2,14 +2,7 @@
 use Rattle.std.specs.Prelude.{ℕ, zero, suc, ◌+◌, ◌*◌, ◌/◌, ◌%◌, Bool, cond, ◌&&◌, ◌||◌, List, [], ◌∷◌, ◌++◌, leb, ltb}
 use Rattle.machine.specs.Table.{RegisterByte, row_of}
 use Rattle.machine.specs.Fetch.{names_a, names_b, half}
-
--- what an instruction says, wherever it stands
-pub record Fields : Type 0 where
-  pub code : ℕ
-  pub function : ℕ
-  pub ra : ℕ
-  pub rb : ℕ
-  pub constant : ℕ
+pub use Rattle.encoding.specs.declared.Fields.{Fields}
 
 abbrev pub fields : (code function ra rb constant : ℕ) → Fields
 fields c f a b v = record { code = c; function = f; ra = a; rb = b; constant = v }

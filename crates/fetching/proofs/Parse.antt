@@ -23,22 +23,24 @@ use Rattle.machine.specs.Fetch.{stopping, not_in_table, names_a, names_b, misnam
 use Rattle.machine.specs.Runs.{size_refused, lowest, fetch_answer}
 use Rattle.published.specs.Lengths.{has_register_byte, length_rule, two}
 use Rattle.published.specs.Fetching.{M₁, M₈, aok_at, fetch_is}
-use Rattle.lookup.specs.Numbers.{byte_number}
-use Rattle.fetching.specs.Halves.{misnamed_by, filled_by}
+use Rattle.lookup.specs.declared.kinds.RegisterByte.{RegisterByte as Kind}
+use Rattle.lookup.specs.declared.kinds.RegisterByte.TheVariants.{NoByte, BothNamed, OnlyB, OnlyA}
+use Rattle.lookup.specs.Kinds.{byte_meant}
+use Rattle.fetching.specs.Halves.{filled}
 
 abbrev code_at : Memory → ℕ → ℕ
 code_at m a = M₁ m a / 16
 
 -- the halves of the byte as the code takes it
-high : (y : RegisterByte) (x : ℕ) → filled_by (byte_number y) x / 16 ≡ half (names_a y) (x / 16)
-unfolding filled_by byte_number names_a half
+high : (y : RegisterByte) (x : ℕ) → filled y x / 16 ≡ half (names_a y) (x / 16)
+unfolding filled names_a half
 high no_byte x = refl
 high both_named x = refl
 high only_b x = omega arith
 high only_a x = omega arith
 
-low : (y : RegisterByte) (x : ℕ) → filled_by (byte_number y) x % 16 ≡ half (names_b y) (x % 16)
-unfolding filled_by byte_number names_b half
+low : (y : RegisterByte) (x : ℕ) → filled y x % 16 ≡ half (names_b y) (x % 16)
+unfolding filled names_b half
 low no_byte x = refl
 low both_named x = refl
 low only_b x = omega arith
@@ -48,22 +50,40 @@ or_false : (b : Bool) → b ≡ b || false
 or_false true = refl
 or_false false = refl
 
-misnamed_by_lem : (y : RegisterByte) (a b : ℕ) → misnamed_by (byte_number y) a b ≡ misnamed y a b
-unfolding misnamed_by byte_number misnamed names_a names_b
-misnamed_by_lem no_byte a b = refl
-misnamed_by_lem both_named a b = refl
-misnamed_by_lem only_b a b = refl
-misnamed_by_lem only_a a b = or_false (eqb a 15)
+-- the ways of `misnamed`
+module _ (y : Kind) (a b : ℕ) where
+  pub none_named : y ≡ NoByte → false ≡ misnamed (byte_meant y) a b
+  unfolding misnamed byte_meant names_a names_b
+  none_named h = cc
 
-named : (y : RegisterByte) → (byte_number y ≡ 0 → ⊥) → T (has_register_byte y)
-unfolding byte_number has_register_byte names_a names_b
+  pub both : y ≡ BothNamed → (eqb a 15 || eqb b 15) ≡ misnamed (byte_meant y) a b
+  unfolding misnamed byte_meant names_a names_b
+  both h = cc
+
+  pub second_named : y ≡ OnlyB → eqb b 15 ≡ misnamed (byte_meant y) a b
+  unfolding misnamed byte_meant names_a names_b
+  second_named h = cc
+
+  pub first_named : y ≡ OnlyA → eqb a 15 ≡ misnamed (byte_meant y) a b
+  unfolding misnamed byte_meant names_a names_b
+  first_named h = cc (or_false (eqb a 15))
+
+pub some_byte : (y : Kind) → (y ≡ NoByte → ⊥) → byte_meant y ≡ no_byte → ⊥
+unfolding byte_meant
+some_byte NoByte h e = h refl
+some_byte BothNamed h e = cc
+some_byte OnlyB h e = cc
+some_byte OnlyA h e = cc
+
+named : (y : RegisterByte) → (y ≡ no_byte → ⊥) → T (has_register_byte y)
+unfolding has_register_byte names_a names_b
 named no_byte h = absurd (h refl)
 named both_named h = tt
 named only_b h = tt
 named only_a h = tt
 
 -- an instruction with a register byte has a second byte
-pub second : (code : ℕ) → (byte_number (row_of code).byte ≡ 0 → ⊥) → 2 ≤ (row_of code).size
+pub second : (code : ℕ) → ((row_of code).byte ≡ no_byte → ⊥) → 2 ≤ (row_of code).size
 second code h = omega (arith, length_rule code, two (row_of code) (named (row_of code).byte h))
 
 -- what the test of the length leaves
@@ -114,8 +134,8 @@ module _ (m : Memory) (a n f : ℕ) (en : n ≡ code_end m a) (h : a < n) (ef : 
         let short = leb-false z (n - a) (not-true _ q) in
         cc (fetch_is m a, lt-leb n a h, in_table, lt-ltb n (a + z) (omega arith))
 
-    module _ (y b : ℕ) (t : Bool) (q : not (leb z (n - a)) ≡ false) (ey : y ≡ byte_number (row_of (code_at m a)).byte)
-        (eb : b ≡ filled_by y (M₁ m (a + 1))) (et : t ≡ misnamed_by y (b / 16) (b % 16)) where
+    module _ (y : RegisterByte) (b : ℕ) (t : Bool) (q : not (leb z (n - a)) ≡ false) (ey : y ≡ (row_of (code_at m a)).byte)
+        (eb : b ≡ filled y (M₁ m (a + 1))) (et : t ≡ misnamed y (b / 16) (b % 16)) where
       high_is : b / 16 ≡ (aok_at m a (code_at m a)).ra
       unfolding aok_at
       high_is = cc (high (row_of (code_at m a)).byte (M₁ m (a + 1)))
@@ -125,7 +145,7 @@ module _ (m : Memory) (a n f : ℕ) (en : n ≡ code_end m a) (h : a < n) (ef : 
       low_is = cc (low (row_of (code_at m a)).byte (M₁ m (a + 1)))
 
       tested : misnamed (row_of (code_at m a)).byte (aok_at m a (code_at m a)).ra (aok_at m a (code_at m a)).rb ≡ t
-      tested = cc (misnamed_by_lem (row_of (code_at m a)).byte (b / 16) (b % 16), high_is, low_is)
+      tested = cc (high_is, low_is)
 
       long : ltb n (a + (row_of (code_at m a)).size) ≡ false
       long = le-ltb n (a + (row_of (code_at m a)).size) (omega (arith, room z (n - a) q))

@@ -1,10 +1,10 @@
--- The halves of the register byte, by the number that names what it is in the code's constant table.
-use Rattle.std.specs.Prelude.{ℕ, ◌+◌, ◌*◌, ◌/◌, ◌%◌, Bool, false, cond, ◌||◌, eqb}
-
--- a named register is 15
-unfoldable pub misnamed_by : ℕ → ℕ → ℕ → Bool
-misnamed_by k a b = cond (eqb k 1) (eqb a 15 || eqb b 15) (cond (eqb k 2) (eqb b 15) (cond (eqb k 3) (eqb a 15) false))
+-- The halves of the register byte, by what it is.
+use Rattle.std.specs.Prelude.{ℕ, ◌+◌, ◌*◌, ◌/◌, ◌%◌}
+use Rattle.machine.specs.Table.{RegisterByte, no_byte, both_named, only_b, only_a}
 
 -- the byte with F in place of its filler, and F:F where there is none
-unfoldable pub filled_by : ℕ → ℕ → ℕ
-filled_by k x = cond (eqb k 1) x (cond (eqb k 2) (240 + x % 16) (cond (eqb k 3) (x / 16 * 16 + 15) 255))
+unfoldable pub filled : RegisterByte → ℕ → ℕ
+filled no_byte x = 255
+filled both_named x = x
+filled only_b x = 240 + x % 16
+filled only_a x = x / 16 * 16 + 15

@@ -2,17 +2,19 @@
 
 #![tactic(auto)]
 
-ghost use Rattle.std.specs.Prelude.{◌≡◌, cond, ◌+◌, ◌-◌, ◌≤◌, ◌<◌, min, eqb, ltb, length, get_or};
+ghost use Rattle.std.specs.Prelude.{◌≡◌, cond, ◌+◌, ◌-◌, ◌≤◌, ◌<◌, eqb, ltb, length, get_or};
 ghost use Rattle.machine.specs.Memory.{lent, through, seen_to};
 ghost use Rattle.machine.specs.Words.{number};
 ghost use Rattle.machine.specs.Types.{faulty};
 ghost use Rattle.machine.specs.declared.Fault.TheVariants.{NoCode as no_code, NoFunction as no_function};
-ghost use Rattle.machine.specs.Fetch.{fetch as fetch_of, stopping as stopping_of, fault_at, blame_of};
+ghost use Rattle.machine.specs.Fetch.{fetch as fetch_of, stopping as stopping_of, misnamed as misnamed_of, fault_at, blame_of};
 ghost use Rattle.machine.specs.Runs.{fetch_answer};
-ghost use Rattle.fetching.specs.Halves.{misnamed_by, filled_by};
+ghost use Rattle.machine.specs.Table.{no_byte};
+ghost use Rattle.lookup.specs.Kinds.{byte_meant};
+ghost use Rattle.fetching.specs.Halves.{filled as filled_of};
 
 use answers::size_refused;
-use lookup::numbers::{BOTH_NAMED, NO_BYTE, ONLY_A, ONLY_B};
+use lookup::kinds::RegisterByte;
 use lookup::{byte_of, functions_of, size_of};
 use machine::{Blame, Fault, FetchAnswer, HALT, Instruction, NONE, NOP, Status, Window};
 
@@ -44,14 +46,14 @@ fn not_in_table(functions: u8) -> Option<Fault>
 }
 
 // A named register that is 15.
-fn misnamed(byte: u8, a: u8, b: u8) -> bool
-    ensures { result ≡ misnamed_by byte a b }
+fn misnamed(byte: RegisterByte, a: u8, b: u8) -> bool
+    ensures { result ≡ misnamed_of (byte_meant byte) a b }
 {
     match byte {
-        BOTH_NAMED => (a == NONE) | (b == NONE),
-        ONLY_B => b == NONE,
-        ONLY_A => a == NONE,
-        _ => false,
+        RegisterByte::NoByte => false,
+        RegisterByte::BothNamed => (a == NONE) | (b == NONE),
+        RegisterByte::OnlyB => b == NONE,
+        RegisterByte::OnlyA => a == NONE,
     }
 }
 
@@ -59,24 +61,26 @@ fn misnamed(byte: u8, a: u8, b: u8) -> bool
 const NONE_NAMED: u8 = 255;
 
 // The register byte with F in place of its filler.
-fn filled(byte: u8, pair: u8) -> u8
-    ensures { result ≡ filled_by byte pair }
+#[tactic(auto, unfolding(lookup::specs::Kinds::byte_meant, crate::specs::Halves::filled))]
+fn filled(byte: RegisterByte, pair: u8) -> u8
+    ensures { result ≡ filled_of (byte_meant byte) pair }
 {
     match byte {
-        BOTH_NAMED => pair,
-        ONLY_B => 240 + pair % 16,
-        ONLY_A => pair / 16 * 16 + 15,
-        _ => NONE_NAMED,
+        RegisterByte::NoByte => NONE_NAMED,
+        RegisterByte::BothNamed => pair,
+        RegisterByte::OnlyB => 240 + pair % 16,
+        RegisterByte::OnlyA => pair / 16 * 16 + 15,
     }
 }
 
 // The register byte where there is one, its filler not looked at, else one that names none.
-fn register_byte(memory: &[u8], at: usize, byte: u8) -> u8
-    requires { (byte ≡ 0 → ⊥) → at + 1 < length memory.now }
-    ensures { result ≡ filled_by byte (get_or memory.now (at + 1) 0) }
+#[tactic(auto, unfolding(lookup::specs::Kinds::byte_meant, crate::specs::Halves::filled))]
+fn register_byte(memory: &[u8], at: usize, byte: RegisterByte) -> u8
+    requires { (byte_meant byte ≡ no_byte → ⊥) → at + 1 < length memory.now }
+    ensures { result ≡ filled_of (byte_meant byte) (get_or memory.now (at + 1) 0) }
 {
     match byte {
-        NO_BYTE => NONE_NAMED,
+        RegisterByte::NoByte => NONE_NAMED,
         _ => filled(byte, memory[at + 1]),
     }
 }
@@ -93,12 +97,6 @@ fn constant_of(memory: &[u8], at: usize, size: u8) -> u64
     }
 }
 
-fn lesser(a: u64, b: u64) -> u64
-    ensures { result ≡ min a b }
-{
-    if a < b { a } else { b }
-}
-
 // Where the bytes end that an instruction at this address may have, in memory of that size.
 pub fn code_end(window: Window, size: u64, address: u64) -> u64
     ensures { result ≡ seen_to window size address }
@@ -107,9 +105,9 @@ pub fn code_end(window: Window, size: u64, address: u64) -> u64
         None => size,
         Some((first, end)) => {
             if address < first {
-                lesser(address, size)
+                address.min(size)
             } else {
-                lesser(end, size)
+                end.min(size)
             }
         }
     }

@@ -14,13 +14,13 @@ use Rattle.clocked.specs.Record.{bubble_m}
 use Rattle.clocked.specs.Record.{StageW}
 use Rattle.machine.specs.Memory.{Memory, Registers}
 use Rattle.machine.specs.Fetch.{fetch}
-use Rattle.clocked.specs.Prediction.{Core, predicted_next, meets}
-use Rattle.clocked.specs.Pipeline.{after_e, after_m, handed, codes_after, registers_after, wrong, ret_in_d, ret_in_e, ret_in_m, bad_in_w, patched_in_w, returned_to, restart}
+use Rattle.clocked.specs.Prediction.{Core, predicted_next}
+use Rattle.clocked.specs.Pipeline.{after_e, after_m, handed, codes_after, registers_after, wrong, returned_to, restart}
 use Rattle.clock_laws.specs.Late.{codes_handed}
 use Rattle.stage.specs.Addresses.{mended_by, mended_by_lem}
 use Rattle.stage.specs.declared.forwarding.Targets.{Targets}
 use Rattle.stage.specs.declared.forwarding.Sources.{Sources}
-use Rattle.stage.specs.Forwarding.{no_targets, targets_m, targets_w, sources_d, written_by, decoded_by, awaited_by}
+use Rattle.stage.specs.Forwarding.{no_targets, targets_m, targets_w, sources_d, written_by, decoded_by}
 use Rattle.flow.specs.declared.Flow.{Flow}
 use Rattle.flow.specs.declared.Ahead.{Ahead}
 use Rattle.flow.specs.declared.Signals.{Signals}

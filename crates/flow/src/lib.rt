@@ -15,8 +15,8 @@ use clocked::{Settings, StageD, StageE, StageM, StageW};
 use fetching::instruction_at;
 use machine::{Codes, Instruction, REGISTERS, Window};
 use stage::addresses::fetch_address;
-use stage::controls::{next_codes, next_d, next_e, next_f, next_m, next_targets};
-use stage::forwarding::{Sources, Targets, awaited, decode_d, sources_d, targets_m};
+use stage::controls::{next_codes, next_d, next_f, next_stage, next_targets};
+use stage::forwarding::{Sources, Targets, awaited, decode_d, sources_d, targets_in};
 use stage::signals::{bad_in_w, meets_either, patched_in_w, ret_on_the_way, wrong};
 use stage::working::{after_e, after_m, registers_after};
 
@@ -50,6 +50,7 @@ pub struct Signals {
     pub cancels: bool,
 }
 
+// The stages come one by one: a struct of them would be made for this call alone.
 #[tactic(auto, unfolding(crate::specs::Moving::signals_by, crate::specs::Moving::signals_with))]
 fn signals_now(
     settings: Settings,
@@ -131,7 +132,7 @@ pub fn advance(
     let fetched = fetch_now(window, ahead.wrong, m, w, flow.predicted, memory);
     let accessed = after_m(window, m, memory);
     let executed = after_e(settings, accessed, e, codes);
-    let targets = targets_m(executed);
+    let targets = targets_in(executed);
     let sources = sources_d(d);
     let decoded = write_and_decode(d, sources, targets, executed, accessed, w, ahead, registers);
     let s = signals_now(settings, sources, targets, d, e, m, executed, accessed);
@@ -145,8 +146,8 @@ pub fn advance(
     Flow {
         predicted: next_f(settings, s.cancels, m, held, flow.predicted, fetched),
         d: next_d(s.cancels | s.mispredicts, s.waits, s.returns, d, fetched),
-        e: next_e(s.cancels | (s.mispredicts | s.waits), decoded),
-        m: next_m(emptied, executed),
+        e: next_stage(s.cancels | (s.mispredicts | s.waits), decoded),
+        m: next_stage(emptied, executed),
         w: accessed,
         codes: next_codes(emptied, e, codes),
         ahead: carried,

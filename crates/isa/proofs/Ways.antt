@@ -3,7 +3,7 @@ use mathlib.Core.Path.{◌≡◌, refl, sym, ap}
 use mathlib.Core.Bool.{Bool, true, false, cond, not, ◌&&◌, ◌||◌, beq}
 use mathlib.Core.List.{List, [], ◌∷◌}
 use mathlib.Core.Logic.{◌⊎◌, inl, inr}
-use Prim.Native.Nat.{ℕ, zero, suc, ◌+◌, ◌-◌, ◌≤◌, ◌<◌}
+use Prim.Native.Nat.{ℕ, zero, suc, ◌+◌, ◌≤◌}
 use native.Mathlib.Omega.{arith}
 use lib.Bits.{bit_and, bit_xor}
 use lib.Dec.{ltb, eqb}
@@ -11,7 +11,7 @@ use lib.ListN.{get_or, length, get_or-eq_default}
 use lib.IntN.{pos, ◌+ℤ◌, ◌-ℤ◌}
 use mir.Syntax.{w64}
 use lib.Signed.{lt_z}
-use borrow.Author.Tests.{eq-eqb, ne_eqb, lt-ltb, le-ltb, ltb-true, ltb-false}
+use borrow.Author.Tests.{eq-eqb, ne_eqb}
 use Rattle.machine.specs.declared.Status.{Status}
 use Rattle.machine.specs.declared.Status.TheVariants.{Adr as adr}
 use Rattle.machine.specs.Types.{Window}
@@ -24,49 +24,30 @@ use Rattle.machine.specs.declared.Accessed.{Accessed}
 use Rattle.machine.specs.Types.{is_bad}
 use Rattle.machine.specs.Words.{sum, difference, signed, outside}
 use Rattle.machine.specs.Memory.{Memory, through, inside, load, store}
-use Rattle.machine.specs.Table.{row_of, table, is, Accesses}
-use Rattle.machine.specs.Stages.{source_a, source_b, result_target, loaded_target}
+use Rattle.machine.specs.Table.{row_of, table, is}
+use Rattle.machine.specs.Stages.{register, result_target}
 use Rattle.machine.specs.Stages.{operated, overflows, operated_codes, codes_by, new_codes, condition, result, outcome, execute}
-use Rattle.machine.specs.Stages.{loading, storing, loads, stores, access_address, stored_word, access_status, meets_window, patches, access, new_memory, turned, straight, next_address}
+use Rattle.machine.specs.Stages.{loading, storing, addressed, stored, loads, stores, access_address, stored_word, access_status, meets_window, patches, access, new_memory, turned, straight, next_address}
 use Rattle.laws.specs.Window.{written_through}
-use Rattle.lookup.specs.Numbers.{which_number, computes_number}
-use Rattle.isa.specs.Decisions.{access_kind, accessed_with, register_by, computed_by}
-use Rattle.isa.proofs.Entries.{register_by_lem, computed_by_lem, none_set, loads_by, stores_by, loads_or_stores, accesses_by, addressed_by, stored_by}
+use Rattle.lookup.specs.declared.kinds.Which.{Which}
+use Rattle.lookup.specs.declared.kinds.Accesses.{Accesses}
+use Rattle.lookup.specs.declared.kinds.Accesses.TheVariants.{NoAccess, LoadsAtA, StoresNext}
+use Rattle.lookup.specs.Kinds.{which_meant, accesses_meant}
+use Rattle.isa.specs.Decisions.{accessed_with}
+use Rattle.isa.proofs.Entries.{none_set, loads_or_stores, some_access, at_result, a_kept}
 
 pub missing : {A : Type 0} (l : List A) (k : ℕ) (d : A) → length l ≤ k → d ≡ get_or l k d
 missing l k d h = sym (get_or-eq_default l d h)
 
 -- DECODE
-pub a_bad : (i : Instruction) (b : Bool) → b ≡ is_bad i.status → b ≡ true → 15 ≡ source_a i
-unfolding source_a
-a_bad i b e h = cc
-
-pub a_good : (i : Instruction) (b : Bool) (k r : ℕ) → b ≡ is_bad i.status → b ≡ false → k ≡ which_number (row_of i.code).a
-    → r ≡ register_by k i → r ≡ source_a i
-unfolding source_a
-a_good i b k r e h q p = cc (register_by_lem (row_of i.code).a i)
-
-pub b_bad : (i : Instruction) (b : Bool) → b ≡ is_bad i.status → b ≡ true → 15 ≡ source_b i
-unfolding source_b
-b_bad i b e h = cc
-
-pub b_good : (i : Instruction) (b : Bool) (k r : ℕ) → b ≡ is_bad i.status → b ≡ false → k ≡ which_number (row_of i.code).b
-    → r ≡ register_by k i → r ≡ source_b i
-unfolding source_b
-b_good i b k r e h q p = cc (register_by_lem (row_of i.code).b i)
-
 pub lost : (i : Instruction) (h : Bool) → eqb i.code 2 && not h ≡ true → 15 ≡ result_target i h
 unfolding result_target is
 lost i h t = cc
 
-pub targeted : (i : Instruction) (h : Bool) (k r : ℕ) → eqb i.code 2 && not h ≡ false → k ≡ which_number (row_of i.code).target
-    → r ≡ register_by k i → r ≡ result_target i h
+pub targeted : (i : Instruction) (h : Bool) (k : Which) (r : ℕ) → eqb i.code 2 && not h ≡ false → which_meant k ≡ (row_of i.code).target
+    → r ≡ register (which_meant k) i → r ≡ result_target i h
 unfolding result_target is
-targeted i h k r t q p = cc (register_by_lem (row_of i.code).target i)
-
-pub into : (i : Instruction) (k r : ℕ) → k ≡ which_number (row_of i.code).loaded → r ≡ register_by k i → r ≡ loaded_target i
-unfolding loaded_target
-into i k r q p = cc (register_by_lem (row_of i.code).loaded i)
+targeted i h k r t q p = cc
 
 -- EXECUTE
 -- a function number past the last of its list
@@ -112,10 +93,6 @@ pub codes_kept : (x : Decoded) (c : Codes) → (x.instruction.code ≡ 6 → ⊥
 unfolding new_codes codes_by
 codes_kept x c h n = rw (none_set x.instruction.code h n)
 
-pub result_is : (x : Decoded) (k v : ℕ) → k ≡ computes_number (row_of x.instruction.code).computes → v ≡ computed_by k x → v ≡ result x
-unfolding result
-result_is x k v q p = cc (computed_by_lem (row_of x.instruction.code).computes x)
-
 pub tested : (i : Instruction) (c : Codes) (b : Bool) → (i.code ≡ 2) ⊎ (i.code ≡ 7) → b ≡ condition i.function c → b ≡ outcome i c
 unfolding outcome is
 tested i c b (inl h) e = cc (eq-eqb i.code 2 h)
@@ -143,52 +120,46 @@ unfolding next_address is
 goes_on_lem w v h k e = cc (ne_eqb w.instruction.code 9 h, ne_eqb w.instruction.code 7 k)
 
 -- ACCESS
-pub at_a : (x : Executed) (k : ℕ) → k ≡ access_kind x → k ≡ 2 → x.a ≡ access_address x
-unfolding access_address
-at_a x k q h = cc (addressed_by (row_of x.instruction.code).accesses x, eq-eqb k 2 h)
+module _ (x : Executed) (k : Accesses) (q : accesses_meant k ≡ (row_of x.instruction.code).accesses) where
+  pub at_a : k ≡ LoadsAtA → x.a ≡ access_address x
+  unfolding access_address accesses_meant addressed
+  at_a h = cc
 
-pub at_e : (x : Executed) (k : ℕ) → k ≡ access_kind x → (k ≡ 2 → ⊥) → x.result ≡ access_address x
-unfolding access_address
-at_e x k q h = cc (addressed_by (row_of x.instruction.code).accesses x, ne_eqb k 2 h)
+  pub at_e : (k ≡ LoadsAtA → ⊥) → x.result ≡ access_address x
+  unfolding access_address
+  at_e h = cc (at_result k x h)
 
-pub next_stored : (x : Executed) (k : ℕ) → k ≡ access_kind x → k ≡ 4 → x.instruction.next ≡ stored_word x
-unfolding stored_word
-next_stored x k q h = cc (stored_by (row_of x.instruction.code).accesses x, eq-eqb k 4 h)
+  pub next_stored : k ≡ StoresNext → x.instruction.next ≡ stored_word x
+  unfolding stored_word accesses_meant stored
+  next_stored h = cc
 
-pub a_stored : (x : Executed) (k : ℕ) → k ≡ access_kind x → (k ≡ 4 → ⊥) → x.a ≡ stored_word x
-unfolding stored_word
-a_stored x k q h = cc (stored_by (row_of x.instruction.code).accesses x, ne_eqb k 4 h)
+  pub a_stored : (k ≡ StoresNext → ⊥) → x.a ≡ stored_word x
+  unfolding stored_word
+  a_stored h = cc (a_kept k x h)
 
-pub failed : (x : Executed) (m : Memory) (k a : ℕ) (n : Bool) → k ≡ access_kind x → a ≡ access_address x → n ≡ inside m a
-    → not (eqb k 0) && not n ≡ true → adr ≡ access_status x m
-unfolding access_status loads stores
-failed x m k a n q e h t = cc (accesses_by (row_of x.instruction.code).accesses)
+  pub word_read : (m : Memory) (b : Bool) (a v : ℕ) → b ≡ loading (accesses_meant k) → b ≡ true → a ≡ access_address x → v ≡ load m a
+      → v ≡ cond (loads x.instruction) (load m (access_address x)) 0
+  unfolding loads
+  word_read m b a v e h f p = cc
 
-pub sound : (x : Executed) (m : Memory) (k a : ℕ) (n : Bool) → k ≡ access_kind x → a ≡ access_address x → n ≡ inside m a
-    → not (eqb k 0) && not n ≡ false → x.instruction.status ≡ access_status x m
-unfolding access_status loads stores
-sound x m k a n q e h t = cc (accesses_by (row_of x.instruction.code).accesses)
+  pub no_word : (m : Memory) (b : Bool) → b ≡ loading (accesses_meant k) → b ≡ false → 0 ≡ cond (loads x.instruction) (load m (access_address x)) 0
+  unfolding loads
+  no_word m b e h = cc
 
-pub word_read : (x : Executed) (m : Memory) (k a v : ℕ) → k ≡ access_kind x → (eqb k 1 || eqb k 2) ≡ true → a ≡ access_address x → v ≡ load m a
-    → v ≡ cond (loads x.instruction) (load m (access_address x)) 0
-unfolding loads
-word_read x m k a v q h e p = cc (loads_by (row_of x.instruction.code).accesses)
+  pub patched_is : (s : Status) (w : Window) (d b c : Bool) (a : ℕ) → d ≡ storing (accesses_meant k) → b ≡ is_bad s → a ≡ access_address x
+      → c ≡ meets_window w a → (d && (not b && c)) ≡ (stores x.instruction && (not (is_bad s) && meets_window w (access_address x)))
+  unfolding stores
+  patched_is s w d b c a e f g h = cc
 
-pub no_word : (x : Executed) (m : Memory) (k : ℕ) → k ≡ access_kind x → (eqb k 1 || eqb k 2) ≡ false
-    → 0 ≡ cond (loads x.instruction) (load m (access_address x)) 0
-unfolding loads
-no_word x m k q h = cc (loads_by (row_of x.instruction.code).accesses)
+  module _ (m : Memory) (b d n : Bool) (a : ℕ) (eb : b ≡ loading (accesses_meant k)) (ed : d ≡ storing (accesses_meant k))
+      (ea : a ≡ access_address x) (en : n ≡ inside m a) where
+    pub failed : (b || d) && not n ≡ true → adr ≡ access_status x m
+    unfolding access_status loads stores
+    failed h = cc
 
--- a word at a reaches into a window that begins at first
-pub begins_before : (a first : ℕ) → first < a → true ≡ ltb first (a + 8)
-begins_before a first h = sym (lt-ltb first (a + 8) (omega arith))
-
-pub begins_within : (a first : ℕ) → a ≤ first → ltb (first - a) 8 ≡ ltb first (a + 8)
-begins_within a first h = go (ltb first (a + 8)) refl
-  where
-    go : (b : Bool) → ltb first (a + 8) ≡ b → ltb (first - a) 8 ≡ ltb first (a + 8)
-    go true e = cc (lt-ltb (first - a) 8 (omega (arith, ltb-true first (a + 8) e)))
-    go false e = cc (le-ltb (first - a) 8 (omega (arith, ltb-false first (a + 8) e)))
+    pub sound : (b || d) && not n ≡ false → x.instruction.status ≡ access_status x m
+    unfolding access_status loads stores
+    sound h = cc
 
 pub window_met : (w : Window) (first end a : ℕ) (b : Bool) → w ≡ within (first, end) → b ≡ ltb first (a + 8)
     → (ltb first end && (ltb a end && b)) ≡ meets_window w a
@@ -199,26 +170,12 @@ pub no_window_met : (w : Window) (a : ℕ) → w ≡ no_window → false ≡ mee
 unfolding meets_window
 no_window_met w a e = cc
 
-pub patched_is : (x : Executed) (s : Status) (w : Window) (k a : ℕ) (b c : Bool) → k ≡ access_kind x → a ≡ access_address x → b ≡ is_bad s → c ≡ meets_window w a
-    → ((eqb k 3 || eqb k 4) && (not b && c)) ≡ (stores x.instruction && (not (is_bad s) && meets_window w (access_address x)))
-unfolding stores
-patched_is x s w k a b c q e f h = cc (stores_by (row_of x.instruction.code).accesses)
-
-pub accessed_is : (x : Executed) (m : Memory) (w : Window) (v : ℕ) (s : Status) (b : Bool) (y : Accessed)
+accessed_is : (x : Executed) (m : Memory) (w : Window) (v : ℕ) (s : Status) (b : Bool) (y : Accessed)
     → v ≡ cond (loads x.instruction) (load m (access_address x)) 0 → s ≡ access_status x m
     → b ≡ (stores x.instruction && (not (is_bad s) && meets_window w (access_address x)))
     → y ≡ accessed_with x v s b → y ≡ access x (through w m)
 unfolding access patches access_status load inside accessed_with
 accessed_is x m w v s b y e f h p = cc
-
-pub updated : (x : Executed) (m m' : Memory) (k a v : ℕ) → k ≡ access_kind x → (eqb k 3 || eqb k 4) ≡ true → a ≡ access_address x → v ≡ stored_word x
-    → m' ≡ store m a v → m' ≡ new_memory x m
-unfolding new_memory stores
-updated x m m' k a v q h e f p = cc (stores_by (row_of x.instruction.code).accesses)
-
-pub left_alone : (x : Executed) (m : Memory) (k : ℕ) → k ≡ access_kind x → (eqb k 3 || eqb k 4) ≡ false → m ≡ new_memory x m
-unfolding new_memory stores
-left_alone x m k q h = cc (stores_by (row_of x.instruction.code).accesses)
 
 -- access and write in one
 both_same : {A : Type 0} (b : Bool) (v : A) → cond b v v ≡ v
@@ -244,40 +201,51 @@ seen : (x : Executed) (m : Memory) (w : Window) (y : Accessed) (v : ℕ) (s : St
 unfolding access
 seen x m w y v s b e p q h = accessed_is x m w v s b y p q h e
 
-module _ (x : Executed) (m : Memory) (w : Window) (k : ℕ) (q : k ≡ access_kind x) (y : Accessed) where
-  abbrev row : Accesses
-  row = (row_of x.instruction.code).accesses
+-- z is what stands beside the kind, the executed instruction itself
+module _ (x z : Executed) (is : z ≡ x) where
+  pub accessed_by : (m : Memory) (w : Window) (v : ℕ) (s : Status) (b : Bool) (y : Accessed)
+      → v ≡ cond (loads z.instruction) (load m (access_address z)) 0 → s ≡ access_status z m
+      → b ≡ (stores z.instruction && (not (is_bad s) && meets_window w (access_address z)))
+      → y ≡ accessed_with x v s b → y ≡ access x (through w m)
+  accessed_by m w v s b y e f h p = accessed_is x m w v s b y (cc) (cc) (cc) p
 
-  pub without_access : k ≡ 0 → y ≡ accessed_with x 0 x.instruction.status false → (y ≡ access x (through w m)) × (through w m ≡ new_memory x (through w m))
-  unfolding access access_status loads stores new_memory
-  without_access h e = (
-    seen x m w y 0 _ false e (cc (loads_by row)) (cc (loads_by row, stores_by row)) (cc (stores_by row)),
-    written_through w x m m (cc (stores_by row)),
-  )
+  module _ (m : Memory) (k : Accesses) (q : accesses_meant k ≡ (row_of z.instruction.code).accesses) where
+    pub updated : (m' : Memory) (d : Bool) (a v : ℕ) → d ≡ storing (accesses_meant k) → d ≡ true → a ≡ access_address z → v ≡ stored_word z
+        → m' ≡ store m a v → m' ≡ new_memory x m
+    unfolding new_memory stores
+    updated m' d a v e h f p g = cc
 
-  module _ (some : k ≡ 0 → ⊥) (a : ℕ) (ea : a ≡ access_address x) (n : Bool) (en : n ≡ inside m a) where
-    pub outside_memory : n ≡ false → y ≡ accessed_with x 0 adr false → (y ≡ access x (through w m)) × (through w m ≡ new_memory x (through w m))
-    unfolding access access_status loads stores new_memory is_bad
-    outside_memory h e = (
-      seen x m w y 0 adr false e (cc (load_outside m a (cc), both_same {A = ℕ} (loading row) 0)) (cc (accesses_by row, ne_eqb k 0 some))
-          (sym (and_false (storing row))),
-      written_through w x m m (cc (store_outside m a (stored_word x) (cc), both_same (storing row) m)),
-    )
+    pub left_alone : (d : Bool) → d ≡ storing (accesses_meant k) → d ≡ false → m ≡ new_memory x m
+    unfolding new_memory stores
+    left_alone d e h = cc
 
-    module _ (h : n ≡ true) where
-      pub loaded_inside : (v : ℕ) → (eqb k 1 || eqb k 2) ≡ true → v ≡ load m a → y ≡ accessed_with x v x.instruction.status false
+    module _ (w : Window) (y : Accessed) where
+      pub without_access : k ≡ NoAccess → y ≡ accessed_with x 0 x.instruction.status false
           → (y ≡ access x (through w m)) × (through w m ≡ new_memory x (through w m))
-      unfolding access access_status loads stores new_memory
-      loaded_inside v t p e = (
-        seen x m w y v _ false e (cc (loads_by row)) (cc (loads_by row)) (cc (loads_or_stores row (cc (loads_by row)))),
-        written_through w x m m (cc (loads_or_stores row (cc (loads_by row)))),
-      )
+      unfolding access access_status loads stores new_memory accesses_meant loading storing
+      without_access h e = (seen x m w y 0 _ false e (cc) (cc) (cc), written_through w x m m (cc))
 
-      pub stored_inside : (v : ℕ) (m' : Memory) (b c : Bool) → (eqb k 1 || eqb k 2) ≡ false → v ≡ stored_word x → m' ≡ store m a v
-          → b ≡ is_bad x.instruction.status → c ≡ meets_window w a
-          → y ≡ accessed_with x 0 x.instruction.status (not b && c) → (y ≡ access x (through w m)) × (through w m' ≡ new_memory x (through w m))
-      unfolding access access_status loads stores new_memory
-      stored_inside v m' b c t p f bad met e = (
-        seen x m w y 0 _ (not b && c) e (cc (loads_by row)) (cc (loads_by row, accesses_by row, ne_eqb k 0 some)) (cc (loads_by row, accesses_by row, ne_eqb k 0 some)),
-        written_through w x m m' (cc (loads_by row, accesses_by row, ne_eqb k 0 some)),
-      )
+      module _ (some : k ≡ NoAccess → ⊥) (a : ℕ) (ea : a ≡ access_address z) (n : Bool) (en : n ≡ inside m a) where
+        pub outside_memory : n ≡ false → y ≡ accessed_with x 0 adr false → (y ≡ access x (through w m)) × (through w m ≡ new_memory x (through w m))
+        unfolding access access_status loads stores new_memory is_bad
+        outside_memory h e = (
+          seen x m w y 0 adr false e (cc (load_outside m a (cc), both_same {A = ℕ} (loading (accesses_meant k)) 0)) (cc (some_access k some))
+              (sym (and_false (storing (row_of x.instruction.code).accesses))),
+          written_through w x m m (cc (store_outside m a (stored_word x) (cc), both_same (storing (accesses_meant k)) m)),
+        )
+
+        module _ (h : n ≡ true) (b : Bool) (eb : b ≡ loading (accesses_meant k)) where
+          pub loaded_inside : (v : ℕ) → b ≡ true → v ≡ load m a → y ≡ accessed_with x v x.instruction.status false
+              → (y ≡ access x (through w m)) × (through w m ≡ new_memory x (through w m))
+          unfolding access access_status loads stores new_memory
+          loaded_inside v t p e =
+              let none = loads_or_stores (accesses_meant k) (cc) in
+              (seen x m w y v _ false e (cc) (cc) (cc none), written_through w x m m (cc none))
+
+          pub stored_inside : (v : ℕ) (m' : Memory) (d c : Bool) → b ≡ false → v ≡ stored_word z → m' ≡ store m a v
+              → d ≡ is_bad x.instruction.status → c ≡ meets_window w a
+              → y ≡ accessed_with x 0 x.instruction.status (not d && c) → (y ≡ access x (through w m)) × (through w m' ≡ new_memory x (through w m))
+          unfolding access access_status loads stores new_memory
+          stored_inside v m' d c t p f bad met e =
+              let one = some_access k some in
+              (seen x m w y 0 _ (not d && c) e (cc) (cc one) (cc one), written_through w x m m' (cc one))

@@ -1,59 +1,60 @@
 // Sources, targets, and the register file.
-ghost use Rattle.std.specs.Prelude.{◌≡◌};
+ghost use Rattle.std.specs.Prelude.{◌≡◌, cond};
 ghost use Rattle.machine.specs.Types.{is_bad};
 ghost use Rattle.machine.specs.Memory.{value as value_of, written as written_of};
-ghost use Rattle.machine.specs.Stages.{source_a, source_b, result_target, loaded_target};
-ghost use Rattle.isa.specs.Decisions.{register_by};
+ghost use Rattle.machine.specs.Stages.{register as register_of, source_a, source_b, result_target, loaded_target};
+ghost use Rattle.lookup.specs.Kinds.{which_meant};
 
-use lookup::numbers::{IN_RA, IN_RB, IN_RSP};
+use lookup::kinds::Which;
 use lookup::{a_from, b_from, loaded_of, target_of};
 use machine::{CMOV, Instruction, NONE, REGISTERS, RSP, Status};
 
+#[tactic(auto, unfolding(machine::specs::Types::is_bad))]
 pub fn is_bad(status: Status) -> bool
     ensures { result ≡ is_bad status }
 {
-    match status {
-        Status::Aok => false,
-        Status::Hlt => true,
-        Status::Adr => true,
-        Status::Ins => true,
-    }
+    status != Status::Aok
 }
 
 // The register that a table's entry names.
-fn register(which: u8, i: Instruction) -> u8
-    ensures { result ≡ register_by which i }
+#[tactic(auto, unfolding(lookup::specs::Kinds::which_meant, machine::specs::Stages::register))]
+fn register(which: Which, i: Instruction) -> u8
+    ensures { result ≡ register_of (which_meant which) i }
 {
     match which {
-        IN_RA => i.ra,
-        IN_RB => i.rb,
-        IN_RSP => RSP,
-        _ => NONE,
+        Which::None => NONE,
+        Which::Ra => i.ra,
+        Which::Rb => i.rb,
+        Which::Rsp => RSP,
     }
 }
 
-// The register that valA comes from, 15 for none.
+// The register that a value comes from, 15 for none: a bad instruction reads none.
+fn source(which: Which, i: Instruction) -> u8
+    ensures { result ≡ cond (is_bad i.status) 15 (register_of (which_meant which) i) }
+{
+    let status = i.status;
+    if is_bad(status) {
+        NONE
+    } else {
+        register(which, i)
+    }
+}
+
+// The register that valA comes from.
+#[tactic(auto, unfolding(machine::specs::Stages::source_a))]
 pub fn source_a(i: Instruction) -> u8
     ensures { result ≡ source_a i }
 {
-    let status = i.status;
-    if is_bad(status) {
-        NONE
-    } else {
-        register(a_from(i.code), i)
-    }
+    source(a_from(i.code), i)
 }
 
-// The register that valB comes from, 15 for none.
+// The register that valB comes from.
+#[tactic(auto, unfolding(machine::specs::Stages::source_b))]
 pub fn source_b(i: Instruction) -> u8
     ensures { result ≡ source_b i }
 {
-    let status = i.status;
-    if is_bad(status) {
-        NONE
-    } else {
-        register(b_from(i.code), i)
-    }
+    source(b_from(i.code), i)
 }
 
 // Where valE goes: a false cmov has no target.
@@ -68,6 +69,7 @@ pub fn result_target(i: Instruction, holds: bool) -> u8
 }
 
 // Where valM goes.
+#[tactic(auto, unfolding(machine::specs::Stages::loaded_target))]
 pub fn loaded_target(i: Instruction) -> u8
     ensures { result ≡ loaded_target i }
 {

@@ -1,17 +1,18 @@
 // Execute: arithmetic with codes, conditions, and where an instruction leads.
 ghost use Rattle.std.specs.Prelude.{◌≡◌};
 ghost use Rattle.machine.specs.Stages.{operated as operated_of, overflows as overflows_of, operated_codes, new_codes, condition as condition_of};
-ghost use Rattle.machine.specs.Stages.{result as result_of, outcome as outcome_of, execute as execute_of};
+ghost use Rattle.machine.specs.Stages.{computed as computed_of, result as result_of, outcome as outcome_of, execute as execute_of};
 ghost use Rattle.machine.specs.Stages.{turned as turned_of, straight as straight_of, next_address};
-ghost use Rattle.isa.specs.Decisions.{computed_by};
+ghost use Rattle.lookup.specs.Kinds.{computes_meant};
 
 use lookup::computes_of;
-use lookup::numbers::{B_LESS_8, B_OP_A, B_PLUS_8, B_PLUS_C, JUST_A, JUST_C};
+use lookup::kinds::Computes;
 use machine::{
     Accessed, CALL, CMOV, Codes, Decoded, Executed, IADDQ, Instruction, JUMP, OPERATION, RET,
 };
 
-// The functions of OPq, and the conditions of cmovXX and jXX.
+// The functions of OPq, and the conditions of cmovXX and jXX. They stay numbers: document 01 wants a match on the copied function number, and a
+// record made by hand may hold any.
 const ADD: u8 = 0;
 
 const SUBTRACT: u8 = 1;
@@ -101,21 +102,23 @@ fn condition(function: u8, c: Codes) -> bool
 }
 
 // valE, by what the row computes.
-fn computed(kind: u8, x: Decoded) -> u64
-    ensures { result ≡ computed_by kind x }
+#[tactic(auto, unfolding(lookup::specs::Kinds::computes_meant, machine::specs::Stages::computed))]
+fn computed(kind: Computes, x: Decoded) -> u64
+    ensures { result ≡ computed_of (computes_meant kind) x }
 {
     let i = x.instruction;
     match kind {
-        B_OP_A => operated(i.function, x.a, x.b),
-        JUST_A => x.a,
-        JUST_C => i.constant,
-        B_PLUS_C => word::sum(x.b, i.constant),
-        B_LESS_8 => word::difference(x.b, 8),
-        B_PLUS_8 => word::sum(x.b, 8),
-        _ => 0,
+        Computes::Nothing => 0,
+        Computes::BOpA => operated(i.function, x.a, x.b),
+        Computes::JustA => x.a,
+        Computes::JustC => i.constant,
+        Computes::BPlusC => word::sum(x.b, i.constant),
+        Computes::BLess8 => word::difference(x.b, 8),
+        Computes::BPlus8 => word::sum(x.b, 8),
     }
 }
 
+#[tactic(auto, unfolding(machine::specs::Stages::result))]
 fn result(x: Decoded) -> u64
     ensures { result ≡ result_of x }
 {

@@ -168,8 +168,7 @@ accepted (suc n) (x ∷ t) size free number h g = go (has line_feed (x ∷ t)) r
         )
     go false e ih =
         let v = judged_last size free number x t e in
-        let z : ◌≡◌ {A = ℕ} 0 1 = cc in
-        absurd (omega arith)
+        absurd (cc)
 
 pub accepted_written : (size : ℕ) (t : Text) → Accepted size t → Listing size 0 (records (lines t)) × (t ≡ written (records (lines t)))
 unfolding verdict

@@ -1,7 +1,7 @@
 -- "The first faulty line is refused with its number (from 1) and one of these kinds, lowest winning" (#103): each text is accepted or has one
 -- first faulty line, with one kind, the lowest whose test holds. Assumes nothing.
 use Rattle.std.specs.Prelude.{◌≡◌, refl, Bool, true, false, List, [], ◌∷◌, ℕ, ◌+◌, ◌<◌, ltb}
-use Rattle.std.proofs.Common.{sym, ◌∙◌, subst, subst₂, arith}
+use Rattle.std.proofs.Common.{sym, ap, ◌∙◌, subst, subst₂, arith}
 use Rattle.text.specs.Parts.{Text, has, before, line_feed, lines}
 use Rattle.listing.specs.Grammar.{Record, address_of, end_of}
 use Rattle.listing.specs.Reading.{Kind, form, count, order, beyond, kind_number, Checked, right, wrong, Reading, good, faulty, record_of, lowest_kind}
@@ -60,7 +60,7 @@ the_first false false true d n k h =
 the_first false false false true n k h =
     let e : beyond ≡ k = cc in
     subst (Picked false false false true) e (refl, below_beyond true)
-the_first false false false false n k h = let z : ◌≡◌ {A = ℕ} 0 1 = cc in absurd (omega arith)
+the_first false false false false n k h = absurd (cc)
 
 same_tests : (size free : ℕ) (r : Record) (k : Kind) → holds size free r k ≡ pick (malformed r) (miscounted r) (ltb (address_of r) free) (ltb size (end_of r)) k
 unfolding holds
@@ -87,9 +87,18 @@ at_once size free m l ls k e = go (has line_feed l) refl
         let f : form ≡ k = cc in
         subst (FirstFault size free m (l ∷ ls) m) f (unended t)
 
+-- the line and the kind of a fault
+abbrev line_of : Reading → ℕ
+line_of (right u) = 0
+line_of (wrong f) = f.line
+
+abbrev kind_of : Kind → Reading → Kind
+kind_of k (right u) = k
+kind_of k (wrong f) = f.kind
+
 pub refused_first : (size free m : ℕ) (ls : List Text) (n : ℕ) (k : Kind) → judged size free m ls ≡ faulty n k → FirstFault size free m ls n k
 unfolding judged goes_on
-refused_first size free m [] n k h = let z : ◌≡◌ {A = ℕ} 0 1 = cc in absurd (omega arith)
+refused_first size free m [] n k h = absurd (cc)
 refused_first size free m (l ∷ ls) n k h = go (checked size free l) refl (λ next. refused_first size next (m + 1) ls n k)
   where
     go : (x : Checked) → checked size free l ≡ x → ((next : ℕ) → judged size next (m + 1) ls ≡ faulty n k → FirstFault size next (m + 1) ls n k)
@@ -97,8 +106,8 @@ refused_first size free m (l ∷ ls) n k h = go (checked size free l) refl (λ n
     go (right next) e ih = later e (ih next (rw e at h))
     go (wrong j) e ih =
         let w : faulty m j ≡ faulty n k = rw e at h in
-        let p : m ≡ n = cc in
-        let q : j ≡ k = cc in
+        let p : m ≡ n = ap line_of w in
+        let q : j ≡ k = ap (kind_of j) w in
         subst₂ (FirstFault size free m (l ∷ ls)) p q (at_once size free m l ls j e)
 
 -- and there is one only: whoever has such a line is refused with it
@@ -118,7 +127,7 @@ first_refused (later e f) = rw e (first_refused f)
 pub one_fault : {size free m n i : ℕ} {ls : List Text} {k j : Kind} → FirstFault size free m ls n k → FirstFault size free m ls i j → (n ≡ i) × (k ≡ j)
 one_fault {n = n} {i = i} {k = k} {j = j} f g =
     let e : faulty n k ≡ faulty i j = sym (first_refused f) ∙ first_refused g in
-    (cc, cc)
+    (ap line_of e, ap (kind_of k) e)
 
 pub either : (size : ℕ) (t : Text) → Judged size t
 unfolding verdict
@@ -126,4 +135,4 @@ either size t = go (judged size 0 1 (lines t)) refl
   where
     go : (v : Reading) → judged size 0 1 (lines t) ≡ v → Judged size t
     go good e = accepted e
-    go (faulty n k) e = faulted n k e (refused_first size 0 1 (lines t) n k e)
+    go (wrong f) e = faulted f.line f.kind e (refused_first size 0 1 (lines t) f.line f.kind e)

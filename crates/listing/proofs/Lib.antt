@@ -1,4 +1,3 @@
-pub mod Checks
 pub mod Judgement
 pub mod Bytes
 pub mod Lines

@@ -1,6 +1,6 @@
 -- Laws of the reading. Assumes nothing.
 use Rattle.std.specs.Prelude.{◌≡◌, refl, Bool, true, false, cond, [], ◌∷◌, ◌++◌, ℕ, ◌+◌, ◌≤◌, ltb, length}
-use Rattle.std.proofs.Common.{ap, arith, ltb-false}
+use Rattle.std.proofs.Common.{ap, ltb-false}
 use Rattle.laws.specs.Tests.{neither}
 use Rattle.text.specs.Parts.{Text, has, before, behind, line_feed, lines}
 use Rattle.text.specs.PartsLaws.{has_joined, has_before, before_joined, lines_first, lines_last}
@@ -36,11 +36,11 @@ judged_last size free n x t h = rw (lines_last x t h) (rw h)
 pub went_on : (k : Checked) (n : ℕ) (f : ℕ → Reading) → goes_on k n f ≡ good → (next : ℕ) × (k ≡ right next) × (f next ≡ good)
 unfolding goes_on
 went_on (right next) n f h = (next, refl, h)
-went_on (wrong k) n f h = let z : ◌≡◌ {A = ℕ} 0 1 = cc in absurd (omega arith)
+went_on (wrong k) n f h = absurd (cc)
 
 -- A RIGHT LINE: no test holds
 passes : (t : Bool) (k : Kind) (x : Checked) (next : ℕ) → cond t (wrong k) x ≡ right next → (t ≡ false) × (x ≡ right next)
-passes true k x next h = let z : ◌≡◌ {A = ℕ} 0 1 = cc in absurd (omega arith)
+passes true k x next h = absurd (cc)
 passes false k x next h = (refl, h)
 
 pub fine : (size free : ℕ) (r : Record) (next : ℕ) → fault size free r ≡ right next → Fine size free r next

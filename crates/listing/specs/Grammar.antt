@@ -1,14 +1,19 @@
 -- What a listing is, and what it means, apart from any reader. #103: "one record a line, fields parted by tabs: address in hex (1 to 16 digits),
 -- bytes in hex (two digits each, 1 to 16 bytes), and an optional remark, the rest of the line. Digits may be of either case."
-use Rattle.std.specs.Prelude.{ℕ, ◌+◌, ◌*◌, ◌≤◌, ◌≡◌, true, false, List, [], ◌∷◌, ◌++◌, length, replicate}
+use Rattle.std.specs.Prelude.{ℕ, ◌+◌, ◌*◌, ◌≤◌, ◌≡◌, true, false, List, [], ◌∷◌, ◌++◌, length, replicate, Option, None, Some}
 use Rattle.std.proofs.lemmas.List.Edits.{sets}
 use Rattle.text.specs.Parts.{Text, has, tab, line_feed}
 use Rattle.text.specs.Hex.{all_hex, hex_number, hex_bytes}
 
 -- "an optional remark, the rest of the line", tabs in it included
-pub data Remark : Type 0 where
-  none : Remark
-  some : Text → Remark
+abbrev pub Remark : Type 0
+Remark = Option Text
+
+pattern abbrev pub none : Remark
+none = None
+
+pattern abbrev pub some : Text → Remark
+some s = Some s
 
 -- a record: the digits of its address and of its bytes, and its remark
 pub record Record : Type 0 where

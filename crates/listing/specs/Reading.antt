@@ -1,17 +1,40 @@
 -- How a text is read: its lines, their fields, the kind of a faulty line, and the answer.
-use Rattle.std.specs.Prelude.{ℕ, ◌+◌, ◌%◌, Bool, cond, not, ◌||◌, List, [], ◌∷◌, eqb, ltb, length}
+use Rattle.std.specs.Prelude.{ℕ, ◌+◌, ◌%◌, Bool, cond, not, ◌||◌, List, [], ◌∷◌, eqb, ltb, length, Result}
 use Rattle.machine.specs.Runs.{size_refused}
 use Rattle.text.specs.Parts.{Text, has, before, behind, tab, line_feed, lines}
 use Rattle.text.specs.Hex.{all_hex}
 use Rattle.listing.specs.Grammar.{none, some, Record, address_of, end_of, image_of}
 pub use Rattle.listing.specs.declared.Kind.{Kind}
 pub use Rattle.listing.specs.declared.Kind.TheVariants.{Form as form, Count as count, Order as order, Beyond as beyond}
-pub use Rattle.listing.specs.declared.Checked.{Checked}
-pub use Rattle.listing.specs.declared.Checked.TheVariants.{Right as right, Wrong as wrong}
-pub use Rattle.listing.specs.declared.Reading.{Reading}
-pub use Rattle.listing.specs.declared.Reading.TheVariants.{Good as good, Faulty as faulty}
-pub use Rattle.listing.specs.declared.Answer.{Answer}
-pub use Rattle.listing.specs.declared.Answer.TheVariants.{Refused as refused, Read as read_as}
+pub use Rattle.listing.specs.declared.Fault.{Fault}
+pub use Rattle.listing.specs.declared.Unread.{Unread}
+pub use Rattle.listing.specs.declared.Unread.TheVariants.{Refused as by_size, Faulty as faulted}
+pub use Rattle.std.specs.Prelude.{Ok as right, Err as wrong}
+
+-- a line that is right, with the first address behind its bytes; or its kind
+abbrev pub Checked : Type 0
+Checked = Result ℕ Kind
+
+-- a text that is a listing; or its first faulty line, by its number from 1 and its kind
+abbrev pub Reading : Type 0
+Reading = Result Unit Fault
+
+pattern abbrev pub good : Reading
+good = right tt
+
+abbrev pub faulty : ℕ → Kind → Reading
+faulty n k = wrong (record { line = n; kind = k })
+
+-- what the reader answers: that memory is the image, or why it is not
+abbrev pub Answer : Type 0
+Answer = Result Unit Unread
+
+pattern abbrev pub refused : Answer
+refused = wrong by_size
+
+abbrev pub read_as : Reading → Answer
+read_as good = right tt
+read_as (wrong f) = wrong (faulted f)
 
 -- document 02's numbers for the kinds
 unfoldable pub kind_number : Kind → ℕ
@@ -82,7 +105,8 @@ answered a m = record { answer = a; memory = m }
 -- "A refusal leaves memory as it was, so the text is read fully before any byte is written."
 unfoldable pub done : Reading → Text → List ℕ → Answered
 done good t m = answered (read_as good) (image_of (length m) (records (lines t)))
-done (faulty n k) t m = answered (read_as (faulty n k)) m
+done (wrong f) t m = answered (read_as (wrong f)) m
 
+-- refusal 1 by the size of memory comes first
 unfoldable pub listed : Text → List ℕ → Answered
-listed t m = cond (size_refused (length m)) (answered (refused 1) m) (done (verdict (length m) t) t m)
+listed t m = cond (size_refused (length m)) (answered refused m) (done (verdict (length m) t) t m)

@@ -2,7 +2,7 @@
 use Rattle.std.specs.Prelude.{ℕ, Bool, true, false, ◌&&◌, List, [], ◌∷◌, eqb, replicate}
 use Prim.Native.String.{String}
 use Rattle.text.specs.Bytes.{bytes}
-use Rattle.listing.specs.Reading.{kind_number, good, faulty, Answer, refused, read_as, listed}
+use Rattle.listing.specs.Reading.{kind_number, Answer, right, wrong, refused, faulted, listed}
 
 -- a text, read into memory whose bytes are all 7; the refusal, the line and the kind, each 0 where there is none; and memory afterwards
 pub record Case : Type 0 where
@@ -32,9 +32,9 @@ same (x ∷ xs) [] = false
 same (x ∷ xs) (y ∷ ys) = eqb x y && same xs ys
 
 unfoldable pub answers : Answer → (number line kind : ℕ) → Bool
-answers (refused n) number line kind = eqb n number && (eqb 0 line && eqb 0 kind)
-answers (read_as good) number line kind = eqb 0 number && (eqb 0 line && eqb 0 kind)
-answers (read_as (faulty l k)) number line kind = eqb 0 number && (eqb l line && eqb (kind_number k) kind)
+answers refused number line kind = eqb 1 number && (eqb 0 line && eqb 0 kind)
+answers (right u) number line kind = eqb 0 number && (eqb 0 line && eqb 0 kind)
+answers (wrong (faulted f)) number line kind = eqb 0 number && (eqb f.line line && eqb (kind_number f.kind) kind)
 
 unfoldable pub holds : Case → Bool
 holds c =

@@ -1,81 +1,69 @@
 // The first faulty line of a text, and its kind.
 ghost use Rattle.std.specs.Prelude.{◌≡◌, ◌+◌};
-ghost use Rattle.listing.specs.Reading.{missing, lowest_kind, in_place, fault, record_of, verdict};
+ghost use Rattle.listing.specs.Reading.{missing, lowest_kind, in_place, fault, checked, record_of, verdict};
 
-use super::{Checked, Kind, Reading};
+use super::{Fault, Kind};
 use text::{hex, parts};
 
 // A field that is missing, or not hex.
+#[tactic(auto, unfolding(crate::specs::Reading::missing))]
 fn is_missing(field: &[u8]) -> bool
     ensures { result ≡ missing field.now }
 {
-    if field.len() == 0 {
-        return true;
-    }
-    !hex::all_digits(field)
+    field.is_empty() || !hex::all_digits(field)
 }
 
-// Kinds 3 and 4: the address beside the first one that is free, and the end beside the size; no sum is made that could wrap.
-fn in_place(address: u64, count: u64, free: u64, size: u64) -> Checked
+// Kinds 3 and 4: the address beside the first one that is free, and the end beside the size; or the first address behind its bytes.
+#[tactic(auto, unfolding(crate::specs::Reading::lowest_kind, crate::specs::Reading::in_place))]
+fn in_place(address: u64, count: u64, free: u64, size: u64) -> Result<u64, Kind>
     ensures { result ≡ lowest_kind (in_place size free address (address + count)) (address + count) }
 {
     if address < free {
-        return Checked::Wrong(Kind::Order);
+        return Err(Kind::Order);
     }
-    if size < count {
-        return Checked::Wrong(Kind::Beyond);
+    match address.checked_add(count) {
+        Some(next) if next <= size => Ok(next),
+        _ => Err(Kind::Beyond),
     }
-    if size - count < address {
-        return Checked::Wrong(Kind::Beyond);
-    }
-    Checked::Right(address + count)
 }
 
 // A line, without its line feed.
-#[tactic(auto, using(crate::proofs::Checks::long_address, crate::proofs::Checks::many))]
-fn check(line: &[u8], free: u64, size: u64) -> Checked
+#[tactic(auto, using(text::specs::HexLaws::hex_bytes_length), unfolding(crate::specs::Reading::fault, crate::specs::Reading::lowest_kind, crate::specs::Reading::malformed, crate::specs::Reading::miscounted, crate::specs::Reading::record_of, crate::specs::Grammar::address_of, crate::specs::Grammar::bytes_of, crate::specs::Grammar::end_of))]
+fn check(line: &[u8], free: u64, size: u64) -> Result<u64, Kind>
     ensures { result ≡ fault size free (record_of line.now) }
 {
     let address = parts::part_before(line, parts::TAB);
     let rest = parts::part_behind(line, parts::TAB);
     let bytes = parts::part_before(rest, parts::TAB);
-    if is_missing(address) {
-        return Checked::Wrong(Kind::Form);
+    if is_missing(address) || is_missing(bytes) || 16 < address.len() {
+        return Err(Kind::Form);
     }
-    if is_missing(bytes) {
-        return Checked::Wrong(Kind::Form);
-    }
-    if 16 < address.len() {
-        return Checked::Wrong(Kind::Form);
-    }
-    if bytes.len() % 2 == 1 {
-        return Checked::Wrong(Kind::Count);
-    }
-    if 32 < bytes.len() {
-        return Checked::Wrong(Kind::Count);
+    if bytes.len() % 2 == 1 || 32 < bytes.len() {
+        return Err(Kind::Count);
     }
     in_place(hex::number(address), (bytes.len() / 2) as u64, free, size)
 }
 
-// Line by line; passed is the number of lines found right so far.
-pub fn judge(text: &[u8], size: u64) -> Reading
+// A line with its line feed, which the last may lack.
+#[tactic(auto, using(crate::proofs::Judgement::not_ended, crate::proofs::Judgement::is_ended, text::proofs::Places::taken), unfolding(crate::specs::Reading::checked))]
+fn check_ended(line: &[u8], free: u64, size: u64) -> Result<u64, Kind>
+    ensures { result ≡ checked size free line.now }
+{
+    let end = parts::place(line, parts::LINE_FEED);
+    if line.len() <= end {
+        return Err(Kind::Form);
+    }
+    check(&line[..end], free, size)
+}
+
+// Line by line; free is the first address behind the last byte given.
+pub fn judge(text: &[u8], size: u64) -> Result<(), Fault>
     ensures { result ≡ verdict size text.now }
 {
-    let mut at: usize = 0;
-    let mut passed: u64 = 0;
     let mut free: u64 = 0;
-    while at < text.len() {
-        let end = parts::place_from(text, at, parts::LINE_FEED);
-        if text.len() <= end {
-            return Reading::Faulty(passed + 1, Kind::Form);
-        }
-        let checked = check(&text[at..end], free, size);
-        match checked {
-            Checked::Wrong(kind) => return Reading::Faulty(passed + 1, kind),
-            Checked::Right(next) => free = next,
-        }
-        passed += 1;
-        at = end + 1;
+    for (passed, line) in text.split_inclusive(|b| *b == parts::LINE_FEED).enumerate() {
+        let number = passed as u64 + 1;
+        free = check_ended(line, free, size).map_err(|kind| Fault { line: number, kind })?;
     }
-    Reading::Good
+    Ok(())
 }

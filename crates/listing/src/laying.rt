@@ -1,5 +1,5 @@
 // The image of a text that was judged to be a listing.
-ghost use Rattle.std.specs.Prelude.{◌≡◌, [], ◌∷◌, ◌+◌, ◌/◌, ◌≤◌, length, replicate};
+ghost use Rattle.std.specs.Prelude.{◌≡◌, [], ◌∷◌, ◌+◌, ◌/◌, ◌≤◌, length};
 ghost use Rattle.std.proofs.lemmas.List.Edits.{sets};
 ghost use Rattle.text.specs.Parts.{lines};
 ghost use Rattle.text.specs.Hex.{hex_bytes};
@@ -8,30 +8,18 @@ ghost use Rattle.listing.specs.Reading.{good, record_of, records, verdict};
 
 use text::{hex, parts};
 
-// "unnamed bytes become 0"
-pub fn clear(memory: &mut [u8])
-    ensures { memory.new ≡ replicate (length memory.old) 0 }
-{
-    let mut k: usize = 0;
-    while k < memory.len() {
-        memory[k] = 0;
-        k += 1;
-    }
-}
-
 // The bytes of these digits, from an address on.
 fn put(memory: &mut [u8], at: usize, digits: &[u8])
     requires { at + length digits.now / 2 ≤ length memory.old }
     ensures { memory.new ≡ sets memory.old at (hex_bytes digits.now) }
 {
-    let mut k: usize = 0;
-    while k < digits.len() / 2 {
-        memory[at + k] = hex::byte(digits[2 * k], digits[2 * k + 1]);
-        k += 1;
+    for (k, pair) in digits.chunks_exact(2).enumerate() {
+        memory[at + k] = hex::byte(pair[0], pair[1]);
     }
 }
 
 // A line that fits, without its line feed.
+#[tactic(auto, using(text::specs::HexLaws::hex_bytes_length), unfolding(crate::specs::Reading::record_of, crate::specs::Grammar::laid, crate::specs::Grammar::address_of, crate::specs::Grammar::bytes_of, crate::specs::Grammar::end_of))]
 fn lay_line(line: &[u8], memory: &mut [u8])
     requires { (length (record_of line.now).address ≤ 16) × (end_of (record_of line.now) ≤ length memory.old) }
     ensures { memory.new ≡ laid (record_of line.now ∷ []) memory.old }
@@ -47,10 +35,7 @@ pub fn lay(text: &[u8], memory: &mut [u8])
     requires { verdict (length memory.old) text.now ≡ good }
     ensures { memory.new ≡ laid (records (lines text.now)) memory.old }
 {
-    let mut at: usize = 0;
-    while at < text.len() {
-        let end = parts::place_from(text, at, parts::LINE_FEED);
-        lay_line(&text[at..end], memory);
-        at = end + 1;
+    for line in text.split_inclusive(|b| *b == parts::LINE_FEED) {
+        lay_line(parts::part_before(line, parts::LINE_FEED), memory);
     }
 }

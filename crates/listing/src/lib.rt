@@ -6,10 +6,10 @@ mod judging;
 mod laying;
 
 ghost use Rattle.std.specs.Prelude.{◌≡◌};
-ghost use Rattle.listing.specs.Reading.{answered, listed};
+ghost use Rattle.listing.specs.Reading.{kind_number, faulted, answered, listed};
 
 // The kinds of a faulty line, in document 02's order.
-#[derive(Clone, Copy)]
+#[derive(Clone, Copy, PartialEq, Eq)]
 pub enum Kind {
     Form,
     Count,
@@ -17,41 +17,53 @@ pub enum Kind {
     Beyond,
 }
 
-// A line that is right, with the first address behind its bytes; or its kind.
-#[derive(Clone, Copy)]
-pub enum Checked {
-    Right(u64),
-    Wrong(Kind),
+// Document 02's numbers for the kinds.
+impl From<Kind> for u64 {
+    ghost from_gives = { λ kind n. n ≡ kind_number kind };
+
+    #[tactic(auto, unfolding(crate::specs::Reading::kind_number))]
+    fn from(kind: Kind) -> u64 {
+        match kind {
+            Kind::Form => 1,
+            Kind::Count => 2,
+            Kind::Order => 3,
+            Kind::Beyond => 4,
+        }
+    }
 }
 
-// A text that is a listing; or its first faulty line, by its number from 1 and its kind.
-#[derive(Clone, Copy)]
-pub enum Reading {
-    Good,
-    Faulty(u64, Kind),
+// The first faulty line of a text, by its number from 1 and its kind.
+#[derive(Clone, Copy, PartialEq, Eq)]
+pub struct Fault {
+    pub line: u64,
+    pub kind: Kind,
 }
 
-// What the reader answers: a refusal by its number, or the reading.
-#[derive(Clone, Copy)]
-pub enum Answer {
-    Refused(u64),
-    Read(Reading),
+// Why a text is not read: refusal 1, by the size of memory; or its first faulty line.
+#[derive(Clone, Copy, PartialEq, Eq)]
+pub enum Unread {
+    Refused,
+    Faulty(Fault),
+}
+
+impl From<Fault> for Unread {
+    ghost from_gives = { λ fault unread. unread ≡ faulted fault };
+
+    fn from(fault: Fault) -> Unread {
+        Unread::Faulty(fault)
+    }
 }
 
 // Reads the text fully; only then, where it is a listing, memory becomes its image.
-pub fn read(text: &[u8], memory: &mut [u8]) -> Answer
+#[tactic(auto, unfolding(crate::specs::Reading::listed, crate::specs::Reading::done, crate::specs::Grammar::image_of))]
+pub fn read(text: &[u8], memory: &mut [u8]) -> Result<(), Unread>
     ensures { answered result memory.new ≡ listed text.now memory.old }
 {
     if answers::size_refused(memory.len()) {
-        return Answer::Refused(1);
+        return Err(Unread::Refused);
     }
-    let reading = judging::judge(text, memory.len() as u64);
-    match reading {
-        Reading::Good => {
-            laying::clear(memory);
-            laying::lay(text, memory);
-            Answer::Read(Reading::Good)
-        }
-        Reading::Faulty(line, kind) => Answer::Read(Reading::Faulty(line, kind)),
-    }
+    judging::judge(text, memory.len() as u64)?;
+    memory.fill(0);
+    laying::lay(text, memory);
+    Ok(())
 }

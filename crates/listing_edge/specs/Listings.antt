@@ -2,10 +2,9 @@
 use Rattle.std.specs.Prelude.{ℕ, cond, not, List, [], ◌∷◌, eqb, length}
 use Rattle.machine.specs.Runs.{size_refused, lowest}
 use Rattle.text.specs.Parts.{Text}
-use Rattle.listing.specs.declared.Reading.TheVariants.{Good as good, Faulty as faulty}
-use Rattle.listing.specs.declared.Answer.{Answer}
-use Rattle.listing.specs.declared.Answer.TheVariants.{Refused as refused, Read as read_as}
-use Rattle.listing.specs.Reading.{kind_number, Answered, listed}
+use Rattle.std.specs.Prelude.{Ok as right, Err as wrong}
+use Rattle.listing.specs.declared.Unread.TheVariants.{Faulty as faulted}
+use Rattle.listing.specs.Reading.{kind_number, Answer, refused, Answered, listed}
 use Rattle.block.specs.Block.{with_words}
 
 -- refusal 1 by the size of memory; 4: "fault not 16 bytes"
@@ -14,9 +13,9 @@ listing_refusal memory fault = lowest ((1, size_refused memory) ∷ (4, not (eqb
 
 -- 9, "a faulty line: `fault` takes its number and kind", as two words; on 0 it stays
 unfoldable pub told : Answer → List ℕ → ℕ × List ℕ
-told (refused n) fault = (n, fault)
-told (read_as good) fault = (0, fault)
-told (read_as (faulty line kind)) fault = (9, with_words (line ∷ kind_number kind ∷ []) fault 0)
+told refused fault = (1, fault)
+told (right u) fault = (0, fault)
+told (wrong (faulted f)) fault = (9, with_words (f.line ∷ kind_number f.kind ∷ []) fault 0)
 
 -- the answer, and what the two lent slices hold
 pub record ListingEdge : Type 0 where

@@ -3,63 +3,50 @@
 #![tactic(auto)]
 
 ghost use Rattle.std.specs.Prelude.{◌≡◌, length};
-ghost use Rattle.listing.specs.Reading.{kind_number};
+ghost use Rattle.answers.specs.Numbers.{number_of};
 ghost use Rattle.listing_edge.specs.Listings.{listing_refusal, told, listing_edge, listing_read};
 
+use answers::Refusal;
 use block::write_words;
-use listing::{Answer, Kind, Reading};
+use listing::Unread;
 
-fn kind_number(kind: Kind) -> u64
-    ensures { result ≡ kind_number kind }
-{
-    match kind {
-        Kind::Form => 1,
-        Kind::Count => 2,
-        Kind::Order => 3,
-        Kind::Beyond => 4,
-    }
-}
-
-// The lowest refusal that applies before the text is read, or 0.
-#[tactic(auto, using(crate::proofs::Faults::no_block))]
-fn refusal(memory: usize, fault: usize) -> u64
-    ensures { result ≡ listing_refusal memory fault }
+// The text may be read; or the lowest refusal that applies.
+#[tactic(auto, unfolding(crate::specs::Listings::listing_refusal, machine::specs::Runs::lowest))]
+fn admit(memory: usize, fault: usize) -> Result<(), Refusal>
+    ensures { number_of result ≡ listing_refusal memory fault }
 {
     if answers::size_refused(memory) {
-        return 1;
+        return Err(Refusal::MemorySize);
     }
     if fault != 16 {
-        return 4;
+        return Err(Refusal::ShortBlock);
     }
-    0
+    Ok(())
 }
 
 // The answer's number; the fault's block takes the faulty line's number and kind.
-fn tell(answer: Answer, fault: &mut [u8]) -> u64
+#[tactic(auto, unfolding(crate::specs::Listings::told))]
+fn tell(answer: Result<(), Unread>, fault: &mut [u8]) -> u64
     requires { length fault.old ≡ 16 }
     ensures { told answer fault.old ≡ (result, fault.new) }
 {
     match answer {
-        Answer::Refused(number) => number,
-        Answer::Read(reading) => match reading {
-            Reading::Good => 0,
-            Reading::Faulty(line, kind) => {
-                let words = [line, kind_number(kind)];
-                write_words(fault, &words);
-                9
-            }
-        },
+        Ok(()) => 0,
+        Err(Unread::Refused) => 1,
+        Err(Unread::Faulty(found)) => {
+            write_words(fault, &[found.line, u64::from(found.kind)]);
+            9
+        }
     }
 }
 
-// Memory becomes the image of the listing.
+// Memory becomes the image of the listing. The answer is a number, as the C interface has it.
+#[tactic(auto, using(crate::proofs::Faults::not_0, crate::proofs::Faults::block_of_16), unfolding(crate::specs::Listings::listing_read, crate::specs::Listings::told_of))]
 pub fn read_listing(text: &[u8], memory: &mut [u8], fault: &mut [u8]) -> u64
     ensures { listing_edge result memory.new fault.new ≡ listing_read text.now memory.old fault.old }
 {
-    let number = refusal(memory.len(), fault.len());
-    if number != 0 {
-        return number;
+    match admit(memory.len(), fault.len()) {
+        Err(refusal) => u64::from(refusal),
+        Ok(()) => tell(listing::read(text, memory), fault),
     }
-    let answer = listing::read(text, memory);
-    tell(answer, fault)
 }

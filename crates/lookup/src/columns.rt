@@ -1,9 +1,7 @@
 // The table of sixteen rows, a constant array for each column. The definitions' table has the same rows, and names the same entries.
-use crate::numbers::{
-    B_LESS_8, B_OP_A, B_PLUS_8, B_PLUS_C, BOTH_NAMED, IN_RA, IN_RB, IN_RSP, JUST_A, JUST_C,
-    LOADS_AT_A, LOADS_AT_E, NO_ACCESS, NO_BYTE, NO_REGISTER, NOTHING, ONLY_A, ONLY_B, ROWS,
-    STORES_A, STORES_NEXT,
-};
+// One array of rows, each a struct, is not taken: the clock, which looks up single columns, is slower with it.
+use crate::ROWS;
+use crate::kinds::{Accesses, Computes, RegisterByte, Which};
 
 // The length.
 pub const SIZES: [u8; ROWS] = [
@@ -46,141 +44,141 @@ pub const FUNCTIONS: [u8; ROWS] = [
 ];
 
 // The register byte.
-pub const BYTES: [u8; ROWS] = [
-    NO_BYTE, // halt
-    NO_BYTE, // nop
-    BOTH_NAMED, // cmovXX
-    ONLY_B, // irmovq
-    BOTH_NAMED, // rmmovq
-    BOTH_NAMED, // mrmovq
-    BOTH_NAMED, // OPq
-    NO_BYTE, // jXX
-    NO_BYTE, // call
-    NO_BYTE, // ret
-    ONLY_A, // pushq
-    ONLY_A, // popq
-    ONLY_B, // iaddq
-    NO_BYTE, // D
-    NO_BYTE, // E
-    NO_BYTE, // F
+pub const BYTES: [RegisterByte; ROWS] = [
+    RegisterByte::NoByte, // halt
+    RegisterByte::NoByte, // nop
+    RegisterByte::BothNamed, // cmovXX
+    RegisterByte::OnlyB, // irmovq
+    RegisterByte::BothNamed, // rmmovq
+    RegisterByte::BothNamed, // mrmovq
+    RegisterByte::BothNamed, // OPq
+    RegisterByte::NoByte, // jXX
+    RegisterByte::NoByte, // call
+    RegisterByte::NoByte, // ret
+    RegisterByte::OnlyA, // pushq
+    RegisterByte::OnlyA, // popq
+    RegisterByte::OnlyB, // iaddq
+    RegisterByte::NoByte, // D
+    RegisterByte::NoByte, // E
+    RegisterByte::NoByte, // F
 ];
 
 // Where valA comes from.
-pub const A_FROM: [u8; ROWS] = [
-    NO_REGISTER, // halt
-    NO_REGISTER, // nop
-    IN_RA, // cmovXX
-    NO_REGISTER, // irmovq
-    IN_RA, // rmmovq
-    NO_REGISTER, // mrmovq
-    IN_RA, // OPq
-    NO_REGISTER, // jXX
-    NO_REGISTER, // call
-    IN_RSP, // ret
-    IN_RA, // pushq
-    IN_RSP, // popq
-    NO_REGISTER, // iaddq
-    NO_REGISTER, // D
-    NO_REGISTER, // E
-    NO_REGISTER, // F
+pub const A_FROM: [Which; ROWS] = [
+    Which::None, // halt
+    Which::None, // nop
+    Which::Ra, // cmovXX
+    Which::None, // irmovq
+    Which::Ra, // rmmovq
+    Which::None, // mrmovq
+    Which::Ra, // OPq
+    Which::None, // jXX
+    Which::None, // call
+    Which::Rsp, // ret
+    Which::Ra, // pushq
+    Which::Rsp, // popq
+    Which::None, // iaddq
+    Which::None, // D
+    Which::None, // E
+    Which::None, // F
 ];
 
 // Where valB comes from.
-pub const B_FROM: [u8; ROWS] = [
-    NO_REGISTER, // halt
-    NO_REGISTER, // nop
-    NO_REGISTER, // cmovXX
-    NO_REGISTER, // irmovq
-    IN_RB, // rmmovq
-    IN_RB, // mrmovq
-    IN_RB, // OPq
-    NO_REGISTER, // jXX
-    IN_RSP, // call
-    IN_RSP, // ret
-    IN_RSP, // pushq
-    IN_RSP, // popq
-    IN_RB, // iaddq
-    NO_REGISTER, // D
-    NO_REGISTER, // E
-    NO_REGISTER, // F
+pub const B_FROM: [Which; ROWS] = [
+    Which::None, // halt
+    Which::None, // nop
+    Which::None, // cmovXX
+    Which::None, // irmovq
+    Which::Rb, // rmmovq
+    Which::Rb, // mrmovq
+    Which::Rb, // OPq
+    Which::None, // jXX
+    Which::Rsp, // call
+    Which::Rsp, // ret
+    Which::Rsp, // pushq
+    Which::Rsp, // popq
+    Which::Rb, // iaddq
+    Which::None, // D
+    Which::None, // E
+    Which::None, // F
 ];
 
 // What valE is.
-pub const COMPUTES: [u8; ROWS] = [
-    NOTHING, // halt
-    NOTHING, // nop
-    JUST_A, // cmovXX
-    JUST_C, // irmovq
-    B_PLUS_C, // rmmovq
-    B_PLUS_C, // mrmovq
-    B_OP_A, // OPq
-    NOTHING, // jXX
-    B_LESS_8, // call
-    B_PLUS_8, // ret
-    B_LESS_8, // pushq
-    B_PLUS_8, // popq
-    B_PLUS_C, // iaddq
-    NOTHING, // D
-    NOTHING, // E
-    NOTHING, // F
+pub const COMPUTES: [Computes; ROWS] = [
+    Computes::Nothing, // halt
+    Computes::Nothing, // nop
+    Computes::JustA, // cmovXX
+    Computes::JustC, // irmovq
+    Computes::BPlusC, // rmmovq
+    Computes::BPlusC, // mrmovq
+    Computes::BOpA, // OPq
+    Computes::Nothing, // jXX
+    Computes::BLess8, // call
+    Computes::BPlus8, // ret
+    Computes::BLess8, // pushq
+    Computes::BPlus8, // popq
+    Computes::BPlusC, // iaddq
+    Computes::Nothing, // D
+    Computes::Nothing, // E
+    Computes::Nothing, // F
 ];
 
 // What the memory stage does.
-pub const ACCESSES: [u8; ROWS] = [
-    NO_ACCESS, // halt
-    NO_ACCESS, // nop
-    NO_ACCESS, // cmovXX
-    NO_ACCESS, // irmovq
-    STORES_A, // rmmovq
-    LOADS_AT_E, // mrmovq
-    NO_ACCESS, // OPq
-    NO_ACCESS, // jXX
-    STORES_NEXT, // call
-    LOADS_AT_A, // ret
-    STORES_A, // pushq
-    LOADS_AT_A, // popq
-    NO_ACCESS, // iaddq
-    NO_ACCESS, // D
-    NO_ACCESS, // E
-    NO_ACCESS, // F
+pub const ACCESSES: [Accesses; ROWS] = [
+    Accesses::NoAccess, // halt
+    Accesses::NoAccess, // nop
+    Accesses::NoAccess, // cmovXX
+    Accesses::NoAccess, // irmovq
+    Accesses::StoresA, // rmmovq
+    Accesses::LoadsAtE, // mrmovq
+    Accesses::NoAccess, // OPq
+    Accesses::NoAccess, // jXX
+    Accesses::StoresNext, // call
+    Accesses::LoadsAtA, // ret
+    Accesses::StoresA, // pushq
+    Accesses::LoadsAtA, // popq
+    Accesses::NoAccess, // iaddq
+    Accesses::NoAccess, // D
+    Accesses::NoAccess, // E
+    Accesses::NoAccess, // F
 ];
 
 // Where valE goes.
-pub const TARGETS: [u8; ROWS] = [
-    NO_REGISTER, // halt
-    NO_REGISTER, // nop
-    IN_RB, // cmovXX
-    IN_RB, // irmovq
-    NO_REGISTER, // rmmovq
-    NO_REGISTER, // mrmovq
-    IN_RB, // OPq
-    NO_REGISTER, // jXX
-    IN_RSP, // call
-    IN_RSP, // ret
-    IN_RSP, // pushq
-    IN_RSP, // popq
-    IN_RB, // iaddq
-    NO_REGISTER, // D
-    NO_REGISTER, // E
-    NO_REGISTER, // F
+pub const TARGETS: [Which; ROWS] = [
+    Which::None, // halt
+    Which::None, // nop
+    Which::Rb, // cmovXX
+    Which::Rb, // irmovq
+    Which::None, // rmmovq
+    Which::None, // mrmovq
+    Which::Rb, // OPq
+    Which::None, // jXX
+    Which::Rsp, // call
+    Which::Rsp, // ret
+    Which::Rsp, // pushq
+    Which::Rsp, // popq
+    Which::Rb, // iaddq
+    Which::None, // D
+    Which::None, // E
+    Which::None, // F
 ];
 
 // Where valM goes.
-pub const LOADED: [u8; ROWS] = [
-    NO_REGISTER, // halt
-    NO_REGISTER, // nop
-    NO_REGISTER, // cmovXX
-    NO_REGISTER, // irmovq
-    NO_REGISTER, // rmmovq
-    IN_RA, // mrmovq
-    NO_REGISTER, // OPq
-    NO_REGISTER, // jXX
-    NO_REGISTER, // call
-    NO_REGISTER, // ret
-    NO_REGISTER, // pushq
-    IN_RA, // popq
-    NO_REGISTER, // iaddq
-    NO_REGISTER, // D
-    NO_REGISTER, // E
-    NO_REGISTER, // F
+pub const LOADED: [Which; ROWS] = [
+    Which::None, // halt
+    Which::None, // nop
+    Which::None, // cmovXX
+    Which::None, // irmovq
+    Which::None, // rmmovq
+    Which::Ra, // mrmovq
+    Which::None, // OPq
+    Which::None, // jXX
+    Which::None, // call
+    Which::None, // ret
+    Which::None, // pushq
+    Which::Ra, // popq
+    Which::None, // iaddq
+    Which::None, // D
+    Which::None, // E
+    Which::None, // F
 ];

@@ -20,6 +20,7 @@ fn instruction_refused(i: Instruction) -> bool
     (NONE < i.ra) | ((NONE < i.rb) | ((functions == 0) | (tested & (functions <= i.function))))
 }
 
+// Of what stands in a stage, and of what is kept.
 #[tactic(auto, unfolding(clocked::specs::PipeRuns::refused_in))]
 fn refused_in<T: Carries>(stage: Option<T>) -> bool
     ensures { result ≡ refused_in T.instruction_of stage }

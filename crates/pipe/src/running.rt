@@ -12,32 +12,26 @@ use flow::{Ahead, Flow, advance};
 use isa::decoding::is_bad;
 use machine::{Blame, Fault, REGISTERS, Status};
 use retiring::{Tally, counted, retires, status_after};
-use stage::forwarding::{targets_m, targets_w};
+use stage::forwarding::targets_in;
 use stage::signals::{bad_in_w, wrong};
 
 // What a clock moves.
-#[tactic(auto, unfolding(crate::specs::Parts::flow_of, flow::specs::Moving::ahead_of))]
+#[tactic(auto, unfolding(crate::specs::Parts::flow_of, stage::specs::Forwarding::targets_m, stage::specs::Forwarding::targets_w, flow::specs::Moving::ahead_of))]
 fn flow_of(p: Pipeline) -> Flow
     ensures { result ≡ flow_of p }
 {
-    let settings = p.settings;
-    let d = p.d;
-    let e = p.e;
-    let m = p.m;
-    let w = p.w;
-    let codes = p.codes;
     let ahead = Ahead {
-        m: targets_m(m),
-        w: targets_w(w),
-        wrong: wrong(settings, m),
+        m: targets_in(p.m),
+        w: targets_in(p.w),
+        wrong: wrong(p.settings, p.m),
     };
     Flow {
         predicted: p.predicted,
-        d,
-        e,
-        m,
-        w,
-        codes,
+        d: p.d,
+        e: p.e,
+        m: p.m,
+        w: p.w,
+        codes: p.codes,
         ahead,
     }
 }
@@ -47,14 +41,12 @@ fn flow_of(p: Pipeline) -> Flow
 fn tally_of(p: Pipeline) -> Tally
     ensures { result ≡ tally_of p }
 {
-    let kinds = p.kinds;
-    let kept = p.kept;
     Tally {
         last: p.last,
         retired: p.retired,
         cycles: p.cycles,
-        kinds,
-        kept,
+        kinds: p.kinds,
+        kept: p.kept,
     }
 }
 
@@ -69,28 +61,21 @@ fn put_together(
 ) -> Pipeline
     ensures { result ≡ whole settings flow tally status registers blame }
 {
-    let d = flow.d;
-    let e = flow.e;
-    let m = flow.m;
-    let w = flow.w;
-    let codes = flow.codes;
-    let kinds = tally.kinds;
-    let kept = tally.kept;
     Pipeline {
         settings,
         predicted: flow.predicted,
-        d,
-        e,
-        m,
-        w,
+        d: flow.d,
+        e: flow.e,
+        m: flow.m,
+        w: flow.w,
         registers,
-        codes,
+        codes: flow.codes,
         status,
         last: tally.last,
         retired: tally.retired,
         cycles: tally.cycles,
-        kinds,
-        kept,
+        kinds: tally.kinds,
+        kept: tally.kept,
         blame,
     }
 }
@@ -100,17 +85,11 @@ fn put_together(
 fn blame_in(settings: Settings, w: StageW, memory: &[u8]) -> Blame
     ensures { result ≡ blame_in w (through settings.window (lent memory.now)) }
 {
-    let window = settings.window;
-    match w {
-        None => Blame {
-            fault: None,
-            address: 0,
-        },
-        Some(x) => {
-            let i = x.instruction;
-            blame_of(window, memory, i)
-        }
-    }
+    let none = Blame {
+        fault: None,
+        address: 0,
+    };
+    w.map_or(none, |x| blame_of(settings.window, memory, x.instruction))
 }
 
 // A retirement goes to its place in a log; a log that is not lent has none.

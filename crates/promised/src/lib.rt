@@ -172,13 +172,13 @@ fn run_image(image: &mut [u8]) -> Result<Pipeline, Refused<Pipeline>>
     report::run_image(image)
 }
 
-fn write_report(answer: Result<Pipeline, Refused<Pipeline>>, out: &mut [u8; 652]) -> usize
-    ensures { Fits write_report (number_in answer, record_in answer, out.old) (result, out.new) }
+fn write_report(number: u64, end: Pipeline, out: &mut [u8; 652]) -> usize
+    ensures { Fits write_report (number, end, out.old) (result, out.new) }
 {
-    report::write_report(answer, out)
+    report::write_report(number, end, out)
 }
 
-fn listing_read(text: &[u8], memory: &mut [u8]) -> listing::Answer
+fn listing_read(text: &[u8], memory: &mut [u8]) -> Result<(), listing::Unread>
     ensures { Fits listing_read_lem (text.now, memory.old) (answered result memory.new) }
 {
     listing::read(text, memory)
@@ -191,7 +191,12 @@ fn edge_listing(text: &[u8], memory: &mut [u8], fault: &mut [u8]) -> u64
     edge::y86_read_listing(text, memory, fault)
 }
 
-fn day_judged(memory: &[u8], table: u64, length: u64, filed: u64) -> peaks::Answer
+fn day_judged(
+    memory: &[u8],
+    table: u64,
+    length: u64,
+    filed: u64,
+) -> Result<peaks::Day, peaks::Refusal>
     ensures { Fits day_judged (lent memory.now, table, length, filed) result }
 {
     peaks::judge(memory, table, length, filed)

@@ -2,46 +2,19 @@
 use mathlib.Core.Path.{◌≡◌, ap, subst, ◌∙◌}
 use mathlib.Core.Bool.{Bool, true, false}
 use mathlib.Core.List.{List, [], ◌++◌}
-use Prim.Native.Nat.{ℕ, ◌≤◌}
-use native.Mathlib.Omega.{arith}
+use Prim.Native.Nat.{ℕ}
 use lib.ListN.{length, drop, replicate}
-use borrow.Author.Tests.{ne_eqb}
 use Rattle.std.specs.Prelude.{Result}
-use Rattle.answers.specs.declared.Refusal.{Refusal}
 use Rattle.answers.specs.declared.Refused.{Refused}
-use Rattle.answers.specs.Numbers.{refusal_number, numbered, number_in, record_in}
+use Rattle.answers.specs.Numbers.{number_in, record_in}
 use Rattle.clocked.specs.declared.Settings.{Settings}
 use Rattle.clocked.specs.declared.Pipeline.{Pipeline}
 use Rattle.machine.specs.Memory.{lent}
 use Rattle.clocked.specs.Prediction.{as_in_01}
 use Rattle.clocked.specs.Pipeline.{pipe_start}
 use Rattle.clocked.specs.PipeRuns.{pipe_started, PipeAnswer, pipe_answer, pipe_run_unlogged}
-use Rattle.text.specs.Bytes.{bytes}
-use Rattle.text.specs.Put.{Put, put_both, put_front, written}
-use Rattle.report_lines.specs.Lines.{line, number_line, status_line, count_lines, kind_lines}
-use Rattle.register_lines.specs.Registers.{register_lines}
-use Rattle.report.specs.Report.{end_lines, report, image_refused, image_start, image_run, reported, replayed}
-
--- the lines of a run that was not refused
-module _ {a b c d e : List ℕ} {at i j k r : ℕ} where
-  pub end : (p : Pipeline) → Put (status_line p.status) at a i b → Put (count_lines p) i b j c → Put (kind_lines p.kinds) j c k d
-      → Put (register_lines 15 p.registers) k d r e → Put (end_lines p) at a r e
-  unfolding end_lines
-  end p x y z w = put_both (put_both (put_both x y) z) w
-
--- THE REPORT
-module _ {a b c : List ℕ} {i r : ℕ} (p : Pipeline) (room : length a ≡ 652) (first : Put (bytes "y86run\t1\n") 0 a i b) (fits : r ≤ 652) where
-  pub answered : Put (end_lines p) i b r c → ◌≡◌ {A = ℕ × List ℕ} (r, c) (written (report 0 p) a)
-  unfolding report line bytes
-  answered y =
-      let q : Put (report 0 p) 0 a r c = put_both first y in
-      put_front q (omega (arith, q.place))
-
-  pub refused : (why : Refusal) → Put (number_line "refused" (refusal_number why)) i b r c → ◌≡◌ {A = ℕ × List ℕ} (r, c) (written (report (refusal_number why) p) a)
-  unfolding report line bytes
-  refused why y =
-      let q : Put (report (refusal_number why) p) 0 a r c = rw (ne_eqb (refusal_number why) 0 (numbered why)) (put_both first y) in
-      put_front q (omega (arith, q.place))
+use Rattle.text.specs.Put.{written}
+use Rattle.report.specs.Report.{report, image_refused, image_start, image_run, reported, replayed}
 
 -- THE RUN
 module _ (image : List ℕ) (s : Settings) (started : Result Pipeline (Refused Pipeline)) (fresh : Pipeline) (x : Bool) (i : s ≡ as_in_01)

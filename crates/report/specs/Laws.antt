@@ -1,6 +1,7 @@
 -- Laws of the report: which images are refused, what is written then, and that the report fits. Assumes nothing.
-use Rattle.std.specs.Prelude.{◌≡◌, refl, Bool, true, false, cond, List, [], ℕ, ◌≤◌, ◌<◌, length, eqb, ltb}
-use Rattle.std.proofs.Common.{ap, arith, ne_eqb, lt-ltb, le-ltb, ltb-false}
+use Rattle.std.specs.Prelude.{◌≡◌, refl, Bool, true, false, cond, List, [], ◌++◌, ℕ, ◌^◌, ◌≤◌, ◌<◌, length, get_or, eqb, ltb}
+use Rattle.std.proofs.Common.{ap, arith, length-append, ne_eqb, lt-ltb, le-ltb, ltb-false}
+use Rattle.clocked.specs.declared.Pipeline.{Pipeline}
 use Rattle.clocked.specs.Charges.{no_kinds}
 use Rattle.clocked.specs.Pipeline.{pipe_start}
 use Rattle.machine.specs.Runs.{size_refused, budget_refused, log_refused, window_refused}
@@ -10,9 +11,10 @@ use Rattle.clocked.specs.PipeRuns.{refused_in_w, refused_kept, pipe_refusal, pip
 use Rattle.laws.specs.Tests.{neither}
 use Rattle.text.specs.Bytes.{bytes}
 use Rattle.text.specs.Put.{written_within}
-use Rattle.text.specs.Decimal.{digits, decimal}
-use Rattle.report_lines.specs.Lines.{line}
-use Rattle.report.specs.Report.{report, image_refused, image_start, image_run, reported, replayed}
+use Rattle.text.specs.Decimal.{digits, decimal, word_length}
+use Rattle.report_lines.specs.Lines.{line, number_line, status_length, counts_length, kinds_length}
+use Rattle.register_lines.specs.Registers.{registers_length}
+use Rattle.report.specs.Report.{end_lines, report, image_refused, image_start, image_run, reported, replayed}
 
 -- an image that the program holds is one that the engines take
 taken : (image : List ℕ) → image_refused (length image) ≡ false → size_refused (length image) ≡ false
@@ -45,6 +47,37 @@ too_long image h = refusal_written image (rw (ne_eqb (length image) 0 (λ e. ome
 pub none_read : reported [] ≡ bytes "y86run\t1\nrefused\t1\n"
 unfolding image_refused
 none_read = refusal_written [] refl
+
+-- THE LENGTH: no report is longer than 652 bytes
+-- the numbers of a record are words
+pub record Words (p : Pipeline) : Type 0 where
+  pub last : p.last < 2 ^ 64
+  pub retired : p.retired < 2 ^ 64
+  pub cycles : p.cycles < 2 ^ 64
+  pub loaduse : p.kinds.loaduse < 2 ^ 64
+  pub mispredict : p.kinds.mispredict < 2 ^ 64
+  pub returned : p.kinds.returned < 2 ^ 64
+  pub registers : (i : ℕ) → get_or p.registers i 0 < 2 ^ 64
+
+end_length : (p : Pipeline) → Words p → length (end_lines p) ≤ 643
+unfolding end_lines
+end_length p w =
+    simp length-append
+    (omega (
+      arith,
+      status_length p.status,
+      counts_length p w.last w.retired w.cycles,
+      kinds_length p.kinds w.loaduse w.mispredict w.returned,
+      registers_length 15 p.registers w.registers,
+    ))
+
+pub report_length : (n : ℕ) (p : Pipeline) → n < 2 ^ 64 → Words p → length (report n p) ≤ 652
+unfolding report line bytes
+report_length n p h w = go (eqb n 0)
+  where
+    go : (t : Bool) → length (line (bytes "y86run") (bytes "1") ++ cond t (end_lines p) (number_line "refused" n)) ≤ 652
+    go true = simp length-append (omega (arith, end_length p w))
+    go false = simp length-append (omega (arith, word_length n h))
 
 -- THE BUFFER
 -- the bytes handed over stand in the buffer

@@ -2,47 +2,51 @@
 
 #![tactic(auto)]
 
-ghost use Rattle.std.specs.Prelude.{◌≡◌, List, [], ℕ, ◌+◌, ◌^◌, ◌≤◌, ◌<◌};
+ghost use Rattle.std.specs.Prelude.{◌≡◌, List, [], ℕ};
 ghost use Rattle.text.specs.Put.{Put, written};
 ghost use Rattle.machine.specs.Memory.{lent};
 ghost use Rattle.clocked.specs.PipeRuns.{pipe_answer};
 ghost use Rattle.answers.specs.Numbers.{number_in, record_in};
 ghost use Rattle.report.specs.Report.{end_lines, report, image_refused, image_run, replayed};
 
-use answers::{Refusal, Refused, record_of};
+use answers::{Refusal, Refused, number_of, record_of};
 use clocked::Pipeline;
 use machine::Codes;
 use register_lines::put_registers;
 use report_lines::{put_counts, put_kinds, put_number, put_status};
-use text::put_text;
+use text::Writer;
 
 // The lines of a run that was not refused, behind the first.
-fn put_end(buffer: &mut [u8], at: usize, end: Pipeline) -> usize
-    requires { at + 643 < 2 ^ 64 }
-    ensures put { Put (end_lines end) at buffer.old result buffer.new }
-    ensures upper_bound { result ≤ at + 643 }
+fn put_end(out: &mut Writer<'_>, end: Pipeline)
+    ensures { Put (end_lines end) out.old out.new }
 {
     let status = end.status;
     let kinds = end.kinds;
     let registers = end.registers;
-    let a = put_status(buffer, at, status);
-    let b = put_counts(buffer, a, end);
-    let c = put_kinds(buffer, b, kinds);
-    put_registers(buffer, c, registers)
+    put_status(out, status);
+    put_counts(out, end);
+    put_kinds(out, kinds);
+    put_registers(out, registers);
 }
 
-// No report is longer than 652 bytes, so that it always fits.
-pub fn write_report(
-    answer: Result<Pipeline, Refused<Pipeline>>,
-    out: &mut [u8; 652],
-) -> usize
-    ensures { ◌≡◌ {A = ℕ × List ℕ} (result, out.new) (written (report (number_in answer) (record_in answer)) out.old) }
+fn put_report(out: &mut Writer<'_>, number: u64, end: Pipeline)
+    ensures { Put (report number end) out.old out.new }
 {
-    let first = put_text(out, 0, b"y86run\t1\n");
-    match answer {
-        Ok(end) => put_end(out, first, end),
-        Err(refused) => put_number(out, first, b"refused", u64::from(refused.why)),
+    out.text(b"y86run\t1\n");
+    if number == 0 {
+        put_end(out, end);
+    } else {
+        put_number(out, b"refused", number);
     }
+}
+
+// No report is longer than 652 bytes, so that it always fits. It takes any number, as it did, so that it may say what no engine answers.
+pub fn write_report(number: u64, end: Pipeline, out: &mut [u8; 652]) -> usize
+    ensures { ◌≡◌ {A = ℕ × List ℕ} (result, out.new) (written (report number end) out.old) }
+{
+    let mut writer = Writer::new(out);
+    put_report(&mut writer, number, end);
+    writer.length()
 }
 
 // The program holds at most 4,096 bytes, whatever the engines take.
@@ -77,5 +81,6 @@ pub fn run_image(image: &mut [u8]) -> Result<Pipeline, Refused<Pipeline>>
 pub fn report_image(image: &mut [u8], out: &mut [u8; 652]) -> usize
     ensures { ◌≡◌ {A = ℕ × List ℕ × List ℕ} (result, out.new, image.new) (replayed image.old out.old) }
 {
-    write_report(run_image(image), out)
+    let answer = run_image(image);
+    write_report(number_of(answer), record_of(answer), out)
 }

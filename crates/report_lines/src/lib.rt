@@ -1,58 +1,48 @@
-// The lines of a report, each put at a place of the buffer.
+// The lines of a report, each put into a writer's buffer.
 
 #![tactic(auto)]
 
-ghost use Rattle.std.specs.Prelude.{◌+◌, ◌^◌, ◌≤◌, ◌<◌, length};
 ghost use Rattle.text.specs.Decimal.{decimal};
 ghost use Rattle.text.specs.Put.{Put};
-ghost use Rattle.report_lines.specs.Lines.{line, number_line, status_line, count_lines, kind_lines};
+ghost use Rattle.report_lines.specs.Lines.{line, status_line, count_lines, kind_lines};
 
 use clocked::{Kinds, Pipeline};
 use machine::Status;
-use text::{put_byte, put_decimal, put_text};
+use text::Writer;
 
-pub fn put_number(buffer: &mut [u8], at: usize, name: &[u8], v: u64) -> usize
-    requires { at + length name.now + 22 < 2 ^ 64 }
-    ensures put { Put (line name.now (decimal v)) at buffer.old result buffer.new }
-    ensures upper_bound { result ≤ at + length name.now + 22 }
+pub fn put_number(out: &mut Writer<'_>, name: &[u8], v: u64)
+    ensures { Put (line name.now (decimal v)) out.old out.new }
 {
-    let tab = put_text(buffer, at, name);
-    let digits = put_byte(buffer, tab, b'\t');
-    let end = put_decimal(buffer, digits, v);
-    put_byte(buffer, end, b'\n')
+    out.text(name);
+    out.byte(b'\t');
+    out.field(v, b'\n');
 }
 
-pub fn put_status(buffer: &mut [u8], at: usize, status: Status) -> usize
-    requires { at + 9 < 2 ^ 64 }
-    ensures put { Put (status_line status) at buffer.old result buffer.new }
-    ensures upper_bound { result ≤ at + 9 }
+pub fn put_status(out: &mut Writer<'_>, status: Status)
+    ensures { Put (status_line status) out.old out.new }
 {
     match status {
-        Status::Aok => put_text(buffer, at, b"stat\tAOK\n"),
-        Status::Hlt => put_text(buffer, at, b"stat\tHLT\n"),
-        Status::Adr => put_text(buffer, at, b"stat\tADR\n"),
-        Status::Ins => put_text(buffer, at, b"stat\tINS\n"),
+        Status::Aok => out.text(b"stat\tAOK\n"),
+        Status::Hlt => out.text(b"stat\tHLT\n"),
+        Status::Adr => out.text(b"stat\tADR\n"),
+        Status::Ins => out.text(b"stat\tINS\n"),
     }
 }
 
-pub fn put_counts(buffer: &mut [u8], at: usize, end: Pipeline) -> usize
-    requires { at + 110 < 2 ^ 64 }
-    ensures put { Put (count_lines end) at buffer.old result buffer.new }
-    ensures upper_bound { result ≤ at + 110 }
+pub fn put_counts(out: &mut Writer<'_>, end: Pipeline)
+    ensures { Put (count_lines end) out.old out.new }
 {
     let codes = end.codes;
-    let a = put_number(buffer, at, b"last", end.last);
-    let b = put_number(buffer, a, b"codes", u64::from(codes));
-    let c = put_number(buffer, b, b"retired", end.retired);
-    put_number(buffer, c, b"cycles", end.cycles)
+    put_number(out, b"last", end.last);
+    put_number(out, b"codes", u64::from(codes));
+    put_number(out, b"retired", end.retired);
+    put_number(out, b"cycles", end.cycles);
 }
 
-pub fn put_kinds(buffer: &mut [u8], at: usize, kinds: Kinds) -> usize
-    requires { at + 89 < 2 ^ 64 }
-    ensures put { Put (kind_lines kinds) at buffer.old result buffer.new }
-    ensures upper_bound { result ≤ at + 89 }
+pub fn put_kinds(out: &mut Writer<'_>, kinds: Kinds)
+    ensures { Put (kind_lines kinds) out.old out.new }
 {
-    let a = put_number(buffer, at, b"loaduse", kinds.loaduse);
-    let b = put_number(buffer, a, b"mispredict", kinds.mispredict);
-    put_number(buffer, b, b"return", kinds.returned)
+    put_number(out, b"loaduse", kinds.loaduse);
+    put_number(out, b"mispredict", kinds.mispredict);
+    put_number(out, b"return", kinds.returned);
 }

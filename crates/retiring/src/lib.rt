@@ -50,10 +50,7 @@ fn reason_behind(settings: Settings, k: Retired, j: Instruction) -> Option<Reaso
 pub fn reason_from(settings: Settings, kept: Kept, j: Instruction) -> Option<Reason>
     ensures { result ≡ reason_from (core_of settings) kept j }
 {
-    match kept {
-        None => None,
-        Some(k) => reason_behind(settings, k, j),
-    }
+    kept.and_then(|k| reason_behind(settings, k, j))
 }
 
 // "The cycle counts kept by kind sum the charges."
@@ -66,32 +63,24 @@ fn count(kinds: Kinds, reason: Option<Reason>) -> Kinds
         None => kinds,
         Some(Reason::Waited) => Kinds {
             loaduse: kinds.loaduse + 1,
-            mispredict: kinds.mispredict,
-            returned: kinds.returned,
-            patched: kinds.patched,
+            ..kinds
         },
         Some(Reason::WronglyGuessed) => Kinds {
-            loaduse: kinds.loaduse,
             mispredict: kinds.mispredict + 2,
-            returned: kinds.returned,
-            patched: kinds.patched,
+            ..kinds
         },
         Some(Reason::Returned) => Kinds {
-            loaduse: kinds.loaduse,
-            mispredict: kinds.mispredict,
             returned: kinds.returned + 3,
-            patched: kinds.patched,
+            ..kinds
         },
         Some(Reason::Patched) => Kinds {
-            loaduse: kinds.loaduse,
-            mispredict: kinds.mispredict,
-            returned: kinds.returned,
             patched: kinds.patched + 3,
+            ..kinds
         },
     }
 }
 
-// Built afresh on every way on which it stays.
+// Built afresh on every way on which it stays, by hand as it was measured (docs/BENCH.md).
 fn still_kept(kept: Kept) -> Kept
     ensures { result ≡ kept }
 {
@@ -129,10 +118,7 @@ fn kept_by(x: Accessed, kept: Kept) -> Kept
 pub fn retires(w: StageW) -> bool
     ensures { result ≡ retires_of w }
 {
-    match w {
-        None => false,
-        Some(_) => true,
-    }
+    w.is_some()
 }
 
 // AOK, or why the instruction in W stops the machine.
@@ -140,10 +126,7 @@ pub fn retires(w: StageW) -> bool
 pub fn status_after(w: StageW) -> Status
     ensures { result ≡ status_after w }
 {
-    match w {
-        None => Status::Aok,
-        Some(x) => x.status,
-    }
+    w.map_or(Status::Aok, |x| x.status)
 }
 
 #[tactic(auto, unfolding(crate::specs::Retiring::tally_after, clocked::specs::Pipeline::last_after, clocked::specs::Pipeline::retired_after, clocked::specs::Pipeline::kinds_after, clocked::specs::Pipeline::kept_after, clocked::specs::Pipeline::bad_in_w, crate::specs::Retiring::kept_by))]

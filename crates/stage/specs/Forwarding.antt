@@ -1,6 +1,6 @@
 -- Sources and targets, taken out of the stages once, and decode by them.
 use Rattle.std.specs.Prelude.{ℕ, Bool, cond, eqb, ltb}
-use Rattle.stage.specs.Types.{Instruction, StageD, bubble_d, in_d, StageE, bubble_e, in_e, StageM, bubble_m, in_m, StageW, bubble_w, in_w}
+use Rattle.stage.specs.Types.{Option, Instruction, StageD, bubble_d, in_d, StageE, bubble_e, in_e, StageM, bubble_m, in_m, StageW}
 use Rattle.clocked.specs.Prediction.{Core, takes_late}
 use Rattle.machine.specs.Memory.{Registers, value, written}
 use Rattle.machine.specs.Stages.{source_a, source_b, result_target, loaded_target}
@@ -14,15 +14,20 @@ no_targets = record { result = 15; loaded = 15 }
 unfoldable pub targets_of : Instruction → Bool → Targets
 targets_of i h = record { result = result_target i h; loaded = loaded_target i }
 
+-- by where what stands in a stage has its instruction, and whether its condition holds
+unfoldable pub targets_in : {A : Type 0} → (A → Instruction) → (A → Bool) → Option A → Targets
+targets_in f h bubble_m = no_targets
+targets_in f h (in_m x) = targets_of (f x) (h x)
+
 -- the targets of M's instruction, or of E's after execution
 unfoldable pub targets_m : StageM → Targets
-targets_m bubble_m = no_targets
-targets_m (in_m x) = targets_of x.instruction x.holds
+unfolding targets_in
+targets_m m = targets_in (λ x. x.instruction) (λ x. x.holds) m
 
 -- the targets of W's instruction, or of M's after its access
 unfoldable pub targets_w : StageW → Targets
-targets_w bubble_w = no_targets
-targets_w (in_w x) = targets_of x.instruction x.holds
+unfolding targets_in
+targets_w w = targets_in (λ x. x.instruction) (λ x. x.holds) w
 
 -- what decode reads: a bubble's sources are 15, which match nothing
 unfoldable pub sources_d : StageD → Sources
@@ -30,17 +35,21 @@ sources_d bubble_d = record { a = 15; b = 15 }
 sources_d (in_d i) = record { a = source_a i; b = source_b i }
 
 -- a bubble's values are 0, and go nowhere
+unfoldable pub value_in : {A : Type 0} → (A → ℕ) → Option A → ℕ
+value_in f bubble_m = 0
+value_in f (in_m x) = f x
+
 unfoldable pub result_m : StageM → ℕ
-result_m bubble_m = 0
-result_m (in_m x) = x.result
+unfolding value_in
+result_m m = value_in (λ x. x.result) m
 
 unfoldable pub result_w : StageW → ℕ
-result_w bubble_w = 0
-result_w (in_w x) = x.result
+unfolding value_in
+result_w w = value_in (λ x. x.result) w
 
 unfoldable pub word_w : StageW → ℕ
-word_w bubble_w = 0
-word_w (in_w x) = x.word
+unfolding value_in
+word_w w = value_in (λ x. x.word) w
 
 -- W's write to the targets t: the result, and then the loaded word
 unfoldable pub written_by : Targets → StageW → Registers → Registers

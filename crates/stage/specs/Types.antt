@@ -4,7 +4,7 @@ pub use Rattle.machine.specs.declared.Instruction.{Instruction}
 pub use Rattle.machine.specs.declared.Decoded.{Decoded}
 pub use Rattle.machine.specs.declared.Executed.{Executed}
 pub use Rattle.machine.specs.declared.Accessed.{Accessed}
-pub use Rattle.clocked.specs.Record.{StageD}
+pub use Rattle.clocked.specs.Record.{Option, StageD}
 pub use Rattle.clocked.specs.Record.{bubble_d, in_d}
 pub use Rattle.clocked.specs.Record.{StageE}
 pub use Rattle.clocked.specs.Record.{bubble_e, in_e}

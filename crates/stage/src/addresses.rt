@@ -15,15 +15,8 @@ fn returned_to(w: StageW, predicted: u64) -> u64
     ensures { result ≡ returned_to w predicted }
 {
     match w {
-        None => predicted,
-        Some(x) => {
-            let i = x.instruction;
-            let code = i.code;
-            match code {
-                RET => x.word,
-                _ => predicted,
-            }
-        }
+        Some(x) if x.instruction.code == RET => x.word,
+        _ => predicted,
     }
 }
 
@@ -32,16 +25,9 @@ fn returned_to(w: StageW, predicted: u64) -> u64
 fn mended(wrong: bool, m: StageM, otherwise: u64) -> u64
     ensures { result ≡ mended_by wrong m otherwise }
 {
-    if wrong {
-        match m {
-            None => otherwise,
-            Some(x) => {
-                let i = x.instruction;
-                turned(i, x.holds)
-            }
-        }
-    } else {
-        otherwise
+    match m {
+        Some(x) if wrong => turned(x.instruction, x.holds),
+        _ => otherwise,
     }
 }
 
@@ -56,13 +42,7 @@ pub fn fetch_address(wrong: bool, m: StageM, w: StageW, predicted: u64) -> u64
 pub fn restart(m: StageM, otherwise: u64) -> u64
     ensures { result ≡ restart_of m otherwise }
 {
-    match m {
-        None => otherwise,
-        Some(x) => {
-            let i = x.instruction;
-            straight(i)
-        }
-    }
+    m.map_or(otherwise, |x| straight(x.instruction))
 }
 
 #[tactic(auto, unfolding(clocked::specs::Prediction::predicted_next, machine::specs::Table::is))]

@@ -1,12 +1,12 @@
 // The controls at the end of a clock: each stage is held, given a bubble, or goes on.
-ghost use Rattle.std.specs.Prelude.{◌≡◌, cond};
+ghost use Rattle.std.specs.Prelude.{◌≡◌, cond, None};
 ghost use Rattle.stage.specs.Types.{bubble_d, in_d, bubble_e, bubble_m};
 ghost use Rattle.stage.specs.Forwarding.{no_targets};
 ghost use Rattle.clocked.specs.Prediction.{core_of, predicted_next};
 ghost use Rattle.clocked.specs.Pipeline.{codes_after, restart as restart_of};
 
 use crate::addresses::{predicted_next, restart};
-use crate::forwarding::{Targets, no_targets};
+use crate::forwarding::{NO_TARGETS, Targets};
 use crate::working::codes_after;
 use clocked::{Settings, StageD, StageE, StageM};
 use machine::{Codes, Instruction};
@@ -32,7 +32,7 @@ pub fn next_f(
     }
 }
 
-// Field by field: two branches that each hand on a whole struct are compiled to one copy of it in memory.
+// Field by field, as it was measured (docs/BENCH.md): two branches that each hand on a whole struct are compiled to one copy of it in memory.
 pub fn afresh(i: Instruction) -> Instruction
     ensures { result ≡ i }
 {
@@ -51,6 +51,7 @@ pub fn afresh(i: Instruction) -> Instruction
     }
 }
 
+// By hand for the same measured reason.
 fn held_d(d: StageD) -> StageD
     ensures { result ≡ d }
 {
@@ -76,32 +77,22 @@ pub fn next_d(
     if waits {
         return held_d(d);
     }
-    if returns {
-        None
-    } else {
-        Some(afresh(fetched))
-    }
+    if returns { None } else { Some(afresh(fetched)) }
 }
 
-// A bubble behind a store into the window, for misprediction and for load-use.
-pub fn next_e(bubbles: bool, decoded: StageE) -> StageE
-    ensures { result ≡ cond bubbles bubble_e decoded }
+// What goes on into a stage, or a bubble in its place. E has one behind a store into the window, for misprediction and for load-use;
+// M has one behind a bad status in M, and behind a store into the window.
+pub fn next_stage<T: Drop>(emptied: bool, stage: Option<T>) -> Option<T>
+    ensures { result ≡ cond emptied None stage }
 {
-    if bubbles { None } else { decoded }
+    if emptied { None } else { stage }
 }
 
-// A bubble behind a bad status in M, and behind a store into the window.
-pub fn next_m(emptied: bool, executed: StageM) -> StageM
-    ensures { result ≡ cond emptied bubble_m executed }
-{
-    if emptied { None } else { executed }
-}
-
-// The targets of what goes into M.
+// The targets of what goes into M, beside it: they are no Option, since 15 already says none.
 pub fn next_targets(emptied: bool, executed: Targets) -> Targets
     ensures { result ≡ cond emptied no_targets executed }
 {
-    if emptied { no_targets() } else { executed }
+    if emptied { NO_TARGETS } else { executed }
 }
 
 // OPq behind a bad status in M, or behind a store into the window, sets no codes.

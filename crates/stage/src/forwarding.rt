@@ -1,21 +1,21 @@
 // Sources and targets, and decode with what is forwarded to it.
 ghost use Rattle.std.specs.Prelude.{◌≡◌};
 ghost use Rattle.clocked.specs.Prediction.{core_of, awaited_a};
-ghost use Rattle.stage.specs.Forwarding.{no_targets, targets_of, targets_m, targets_w, sources_d, result_m, result_w, word_w, source_by, decoded_by, awaited_by};
+ghost use Rattle.stage.specs.Forwarding.{targets_in, value_in, sources_d, word_w, source_by, decoded_by, awaited_by};
 
 use crate::signals::takes_late;
-use clocked::{Settings, StageD, StageE, StageM, StageW};
+use clocked::{Finished, Settings, StageD, StageE, StageM, StageW};
 use isa::decoding::{loaded_target, result_target, source_a, source_b};
 use machine::{Decoded, Instruction, NONE, REGISTERS};
 
-// The registers that an instruction writes, 15 for none: worked out in E, and carried on from there.
+// The registers that an instruction writes, 15 for none, which is document 01's own number: worked out in E, and carried on from there.
 #[derive(Clone, Copy)]
 pub struct Targets {
     pub result: u8,
     pub loaded: u8,
 }
 
-// The registers that D's instruction reads, 15 for none.
+// The registers that D's instruction reads, 15 for none, which is document 01's own number.
 #[derive(Clone, Copy)]
 pub struct Sources {
     pub a: u8,
@@ -26,13 +26,13 @@ pub struct Sources {
 pub fn sources_d(d: StageD) -> Sources
     ensures { result ≡ sources_d d }
 {
-    match d {
-        None => Sources { a: NONE, b: NONE },
-        Some(i) => Sources {
+    d.map_or(
+        Sources { a: NONE, b: NONE },
+        |i| Sources {
             a: source_a(i),
             b: source_b(i),
         },
-    }
+    )
 }
 
 // Of D's sources the one that may come late is not waited for.
@@ -59,84 +59,42 @@ pub fn awaited_a(settings: Settings, i: Instruction) -> u8
     }
 }
 
-pub fn no_targets() -> Targets
-    ensures { result ≡ no_targets }
+// A bubble's.
+pub const NO_TARGETS: Targets = Targets {
+    result: NONE,
+    loaded: NONE,
+};
+
+// Of what stands in a stage, if it has been executed.
+#[tactic(auto, unfolding(crate::specs::Forwarding::targets_in, crate::specs::Forwarding::targets_of))]
+pub fn targets_in<T: Finished + Copy>(stage: Option<T>) -> Targets
+    ensures { result ≡ targets_in T.instruction_of T.holds_of stage }
 {
-    Targets {
-        result: NONE,
-        loaded: NONE,
-    }
+    stage.map_or(
+        NO_TARGETS,
+        |x| Targets {
+            result: result_target(x.instruction(), x.holds()),
+            loaded: loaded_target(x.instruction()),
+        },
+    )
 }
 
-#[tactic(auto, unfolding(crate::specs::Forwarding::targets_of))]
-fn targets_of(i: Instruction, holds: bool) -> Targets
-    ensures { result ≡ targets_of i holds }
+#[tactic(auto, unfolding(crate::specs::Forwarding::value_in))]
+pub fn result_in<T: Finished>(stage: Option<T>) -> u64
+    ensures { result ≡ value_in T.result_of stage }
 {
-    Targets {
-        result: result_target(i, holds),
-        loaded: loaded_target(i),
-    }
-}
-
-// Of M's instruction, or of E's after execution.
-#[tactic(auto, unfolding(crate::specs::Forwarding::targets_m))]
-pub fn targets_m(m: StageM) -> Targets
-    ensures { result ≡ targets_m m }
-{
-    match m {
-        None => no_targets(),
-        Some(x) => {
-            let i = x.instruction;
-            targets_of(i, x.holds)
-        }
-    }
-}
-
-#[tactic(auto, unfolding(crate::specs::Forwarding::targets_w))]
-pub fn targets_w(w: StageW) -> Targets
-    ensures { result ≡ targets_w w }
-{
-    match w {
-        None => no_targets(),
-        Some(x) => {
-            let i = x.instruction;
-            targets_of(i, x.holds)
-        }
-    }
-}
-
-#[tactic(auto, unfolding(crate::specs::Forwarding::result_m))]
-fn result_m(m: StageM) -> u64
-    ensures { result ≡ result_m m }
-{
-    match m {
-        None => 0,
-        Some(x) => x.result,
-    }
-}
-
-#[tactic(auto, unfolding(crate::specs::Forwarding::result_w))]
-pub fn result_w(w: StageW) -> u64
-    ensures { result ≡ result_w w }
-{
-    match w {
-        None => 0,
-        Some(x) => x.result,
-    }
+    stage.map_or(0, |x| x.result())
 }
 
 #[tactic(auto, unfolding(crate::specs::Forwarding::word_w))]
 pub fn word_w(w: StageW) -> u64
     ensures { result ≡ word_w w }
 {
-    match w {
-        None => 0,
-        Some(x) => x.word,
-    }
+    w.map_or(0, |x| x.word)
 }
 
 // "the first match of: result in E, word loaded in M, result in M", then the register file, which W has written by now.
-#[tactic(auto, unfolding(crate::specs::Forwarding::source_by, machine::specs::Memory::value))]
+#[tactic(auto, unfolding(crate::specs::Forwarding::source_by, crate::specs::Forwarding::result_m, crate::specs::Forwarding::result_w, machine::specs::Memory::value))]
 fn source(
     t: Targets,
     executed: StageM,
@@ -151,13 +109,13 @@ fn source(
         return 0; // matches nothing
     }
     if t.result == q {
-        return result_m(executed);
+        return result_in(executed);
     }
     if u.loaded == q {
         return word_w(accessed);
     }
     if u.result == q {
-        return result_w(accessed);
+        return result_in(accessed);
     }
     let k = q as usize;
     registers[k]
@@ -176,16 +134,9 @@ pub fn decode_d(
 ) -> StageE
     ensures { result ≡ decoded_by s t executed u accessed registers.now d }
 {
-    match d {
-        None => None,
-        Some(i) => {
-            let a = source(t, executed, u, accessed, registers, s.a);
-            let b = source(t, executed, u, accessed, registers, s.b);
-            Some(Decoded {
-                instruction: i,
-                a,
-                b,
-            })
-        }
-    }
+    d.map(|instruction| Decoded {
+        instruction,
+        a: source(t, executed, u, accessed, registers, s.a),
+        b: source(t, executed, u, accessed, registers, s.b),
+    })
 }

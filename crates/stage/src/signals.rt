@@ -7,7 +7,7 @@ use clocked::{Carries, Settings, StageD, StageE, StageM, StageW};
 use isa::decoding::is_bad;
 use machine::{Instruction, JUMP, NONE, RET};
 
-// The rules that do not guess every jump taken (#105).
+// The rules that do not guess every jump taken (#105): numbers, since a record may come with any, and one above 2 is refused.
 const NEVER: u8 = 1;
 
 const BACKWARD: u8 = 2;

@@ -5,7 +5,7 @@ ghost use Rattle.clocked.specs.Prediction.{core_of};
 ghost use Rattle.clocked.specs.Pipeline.{after_e, after_m, handed_a, handed, codes_after, memory_after};
 ghost use Rattle.stage.specs.Forwarding.{written_by};
 
-use crate::forwarding::{Targets, result_w, word_w};
+use crate::forwarding::{Targets, result_in, word_w};
 use crate::signals::{meets, takes_late};
 use clocked::{Settings, StageE, StageM, StageW};
 use isa::accessing::access_and_update;
@@ -19,20 +19,10 @@ fn handed_a(settings: Settings, w: StageW, x: Decoded) -> u64
     ensures { result ≡ handed_a (core_of settings) w x }
 {
     let i = x.instruction;
-    if takes_late(settings, i) {
-        match w {
-            None => x.a,
-            Some(y) => {
-                let j = y.instruction;
-                if meets(loaded_target(j), source_a(i)) {
-                    y.word
-                } else {
-                    x.a
-                }
-            }
-        }
-    } else {
-        x.a
+    match w {
+        Some(y) if takes_late(settings, i) && meets(loaded_target(y.instruction), source_a(i)) =>
+            y.word,
+        _ => x.a,
     }
 }
 
@@ -41,19 +31,13 @@ fn handed_a(settings: Settings, w: StageW, x: Decoded) -> u64
 pub fn after_e(settings: Settings, w: StageW, e: StageE, codes: Codes) -> StageM
     ensures { result ≡ after_e (handed (core_of settings) w e) codes }
 {
-    match e {
-        None => None,
-        Some(x) => {
-            let instruction = x.instruction;
-            let a = handed_a(settings, w, x);
-            let given = Decoded {
-                instruction,
-                a,
-                b: x.b,
-            };
-            Some(execute(given, codes))
-        }
-    }
+    e.map(|x| {
+        let given = Decoded {
+            a: handed_a(settings, w, x),
+            ..x
+        };
+        execute(given, codes)
+    })
 }
 
 // M's instruction after its access, and the clock's write: nothing else reads memory from here on.
@@ -62,6 +46,7 @@ pub fn after_m(window: Window, m: StageM, memory: &mut [u8]) -> StageW
     ensures { (result ≡ after_m m (through window (lent memory.old)))
         × (through window (lent memory.new) ≡ memory_after m (through window (lent memory.old))) }
 {
+    // Not `map`, which does not say that what it does not call leaves memory as it was.
     match m {
         None => None,
         Some(x) => Some(access_and_update(x, window, memory)),
@@ -72,17 +57,14 @@ pub fn after_m(window: Window, m: StageM, memory: &mut [u8]) -> StageW
 pub fn codes_after(e: StageE, codes: Codes) -> Codes
     ensures { result ≡ codes_after e codes }
 {
-    match e {
-        None => codes,
-        Some(x) => new_codes(x, codes),
-    }
+    e.map_or(codes, |x| new_codes(x, codes))
 }
 
 // W's write, to the targets that it carries: the result, and then the loaded word.
-#[tactic(auto, unfolding(crate::specs::Forwarding::written_by))]
+#[tactic(auto, unfolding(crate::specs::Forwarding::written_by, crate::specs::Forwarding::result_w))]
 pub fn registers_after(targets: Targets, w: StageW, registers: &mut [u64; REGISTERS])
     ensures { registers.new ≡ written_by targets w registers.old }
 {
-    write(registers, targets.result, result_w(w));
+    write(registers, targets.result, result_in(w));
     write(registers, targets.loaded, word_w(w));
 }

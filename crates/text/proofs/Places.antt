@@ -1,39 +1,38 @@
--- The place of a byte, turn by turn. Assumes nothing.
-use mathlib.Core.Path.{◌≡◌, ap, sym, ◌∙◌}
-use Prim.Native.Nat.{ℕ, suc, ◌+◌, ◌-◌, ◌≤◌, ◌<◌}
+-- The place of a byte, and the parts before and behind it. Assumes nothing.
+use mathlib.Core.Path.{◌≡◌, refl, ap, sym, ◌∙◌}
+use Prim.Native.Nat.{ℕ, ◌+◌, ◌-◌, ◌≤◌, ◌<◌}
 use native.Mathlib.Omega.{arith}
-use native.Mathlib.Numerals.{add-one}
-use lib.ListN.{length, take, drop, get_or, length-drop, drop_of_length-le}
-use lib.Seq.{drop-cons, take_all, take-nil}
-use borrow.Author.Tests.{eq-eqb, ne_eqb}
+use lib.ListN.{length, take, drop, length-drop}
+use lib.Seq.{take_all}
+use borrow.Author.Tests.{ltb-false}
+use lib.Dec.{eqb, ltb}
+use mathlib.Core.Bool.{Bool, true, false, cond}
+use mathlib.Core.List.{[], ◌∷◌}
+use Rattle.std.specs.List.{position, position_or_len}
+use Rattle.std.specs.Prelude.{None, Some}
+use Rattle.std.specs.Option.{unwrap_or}
+use Rattle.std.proofs.lemmas.List.Recursion.{is_position_or_len}
 use Rattle.text.specs.Parts.{Text, before, behind}
 use Rattle.text.specs.PartsLaws.{before_shorter, before_taken, behind_dropped, behind_none, has_there, has_nowhere}
 
--- what is before the first c of s is k bytes and what is before the first of the rest
-pub record Passed (s : Text) (c k : ℕ) : Type 0 where
-  pub before_rest : length (before c s) ≡ k + length (before c (drop k s))
+-- the place of the first c, as `position` finds it
+pub place_is : (c : ℕ) (s : Text) → unwrap_or (position (λ x. eqb x c) s) (length s) ≡ length (before c s)
+unfolding before
+place_is c s = rw (is) (go (ltb (length (before c s)) (length s)) refl)
+  where
+    step : (x : ℕ) (t : Text) → length (before c (x ∷ t)) ≡ cond (eqb x c) 0 (1 + length (before c t))
+    step x t = go (eqb x c)
+      where
+        go : (b : Bool) → length (cond b [] (x ∷ before c t)) ≡ cond b 0 (1 + length (before c t))
+        go true = refl
+        go false = omega arith
 
-pub passed_none : (s : Text) (c : ℕ) → Passed s c 0
-passed_none s c = record { before_rest = omega arith }
+    is : position_or_len (λ x. eqb x c) s ≡ length (before c s)
+    is = sym (is_position_or_len (λ t. length (before c t)) (λ x. eqb x c) refl step s)
 
-module _ (s : Text) (c k : ℕ) (h : Passed s c k) where
-  pub at_last : length s ≤ k → k ≡ length (before c s)
-  unfolding before
-  at_last q = omega (arith, h.before_rest, ap (λ (l : Text). length (before c l)) (drop_of_length-le s q))
-
-  module _ (lt : k < length s) where
-    pub found : get_or s k 0 ≡ c → k ≡ length (before c s)
-    unfolding before
-    found e =
-        let d : length (before c (drop k s)) ≡ 0 = ap (λ (l : Text). length (before c l)) (drop-cons s k 0 lt) ∙ rw (eq-eqb (get_or s k 0) c e) in
-        omega (arith, h.before_rest)
-
-    pub passed_more : (get_or s k 0 ≡ c → ⊥) → Passed s c (k + 1)
-    unfolding before
-    passed_more e =
-        let d : length (before c (drop k s)) ≡ suc (length (before c (drop (suc k) s))) = ap (λ (l : Text). length (before c l)) (drop-cons s k 0 lt)
-        ∙ rw (ne_eqb (get_or s k 0) c e) in
-        record { before_rest = rw (add-one k) (omega (arith, h.before_rest)) }
+    go : (b : Bool) → ltb (length (before c s)) (length s) ≡ b → unwrap_or (cond b (Some (length (before c s))) None) (length s) ≡ length (before c s)
+    go true e = refl
+    go false e = omega (arith, ltb-false (length (before c s)) (length s) e, before_shorter c s)
 
 -- THE PARTS, where n is the place
 module _ (c : ℕ) (t : Text) (n : ℕ) (h : n ≡ length (before c t)) where
@@ -48,8 +47,8 @@ module _ (c : ℕ) (t : Text) (n : ℕ) (h : n ≡ length (before c t)) where
       take_all (length t - (n + 1)) (drop (n + 1) t) (omega (arith, length-drop (n + 1) t))
       ∙ rw h (behind_dropped c t (has_there c t (omega arith)))
 
-  pub behind_nothing : length t ≤ n → take (length t - n) (drop n t) ≡ behind c t
-  behind_nothing q = ap (take (length t - n)) (drop_of_length-le t q) ∙ (take-nil (length t - n) ∙ sym (behind_none c t (has_nowhere c t (omega arith))))
+  pub behind_nothing : length t ≤ n → [] ≡ behind c t
+  behind_nothing q = sym (behind_none c t (has_nowhere c t (omega arith)))
 
 -- the place in what follows a place
 pub from_there : (c : ℕ) (t : Text) (at n : ℕ) → at ≤ length t → n ≡ length (before c (take (length t - at) (drop at t)))

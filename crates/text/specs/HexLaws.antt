@@ -13,7 +13,7 @@ hex_bytes_length (h ∷ l ∷ s) = omega (arith, hex_bytes_length s)
 
 both : (a b : Bool) → (a && b) ≡ true → (a ≡ true) × (b ≡ true)
 both true b h = (refl, h)
-both false b h = let z : ◌≡◌ {A = ℕ} 0 1 = cc in absurd (omega arith)
+both false b h = absurd (cc)
 
 -- hex digits hold no byte that is none of them
 pub hex_without : (c : ℕ) → is_hex c ≡ false → (s : List ℕ) → all_hex s ≡ true → has c s ≡ false
@@ -26,6 +26,5 @@ hex_without c h (x ∷ s) e =
     go : (b : Bool) → eqb x c ≡ b → is_hex x ≡ true → has c s ≡ false → (eqb x c || has c s) ≡ false
     go true q d ih =
         let same = eqb-true x c q in
-        let z : ◌≡◌ {A = ℕ} 0 1 = cc in
-        absurd (omega arith)
+        absurd (cc)
     go false q d ih = rw q ih

@@ -19,7 +19,7 @@ has_joined c (x ∷ l) m = go (eqb x c) (has_joined c l m)
 -- A TEXT THAT HAS c: what stands before it, c, and what stands behind
 pub parted : (c : ℕ) (t : Text) → has c t ≡ true → t ≡ before c t ++ c ∷ behind c t
 unfolding has before behind
-parted c [] h = let z : ◌≡◌ {A = ℕ} 0 1 = cc in absurd (omega arith)
+parted c [] h = absurd (cc)
 parted c (x ∷ t) h = go (eqb x c) refl (parted c t)
   where
     go : (b : Bool) → eqb x c ≡ b → (has c t ≡ true → t ≡ before c t ++ c ∷ behind c t) → x ∷ t ≡ before c (x ∷ t) ++ c ∷ behind c (x ∷ t)

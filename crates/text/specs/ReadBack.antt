@@ -6,7 +6,7 @@ use Rattle.std.proofs.Math.Path.{ap}
 use borrow.Author.Tests.{lt-ltb, ne_eqb, eq-eqb}
 use Rattle.std.proofs.Math.ListN.{length, get_or, length-append, get_or-append}
 use Rattle.std.proofs.Math.Seq.{get_or-append-add, drop_at}
-use Rattle.text.specs.declared.reading.Field.TheVariants.{Number as number}
+use Rattle.std.specs.Prelude.{Some as number}
 use Rattle.text.specs.Decimal.{decimal, is_digit, all_digits, read_behind, decimal_one, decimal_some, decimal_digits, decimal_value, no_leading_zero}
 use Rattle.text.specs.Field.{starts_number, read_on, field_at, ended_by, field_ended}
 
@@ -22,16 +22,16 @@ both false b e = (e, cc)
 
 -- digits, and then a byte that is none
 digits_read : (s : List ℕ) (end : ℕ) (rest : List ℕ) (v k : ℕ) → is_digit end ≡ false → all_digits s ≡ true → read_behind v s < 2 ^ 64
-    → read_on v k (s ++ end ∷ rest) ≡ number (read_behind v s) (k + length s)
+    → read_on v k (s ++ end ∷ rest) ≡ number (read_behind v s, k + length s)
 unfolding read_on read_behind all_digits
 digits_read [] end rest v k h d l =
     let p : k ≡ k + 0 = omega arith in
-    rw h (ap (number v) p)
+    rw h (ap (λ (j : ℕ). number (v, j)) p)
 digits_read (b ∷ s) end rest v k h d l =
     let p = both (is_digit b) (all_digits s) d in
     let m = grows s (10 * v + (b - 48)) in
     let q : k + 1 + length s ≡ k + suc (length s) = omega arith in
-    rw (p.0, lt-ltb (10 * v + (b - 48)) (2 ^ 64) (omega arith)) (digits_read s end rest (10 * v + (b - 48)) (k + 1) h p.1 l ∙ ap (number (read_behind (10 * v + (b - 48)) s)) q)
+    rw (p.0, lt-ltb (10 * v + (b - 48)) (2 ^ 64) (omega arith)) (digits_read s end rest (10 * v + (b - 48)) (k + 1) h p.1 l ∙ ap (λ (j : ℕ). number (read_behind (10 * v + (b - 48)) s, j)) q)
 
 first_digit : (s t : List ℕ) → 0 < length s → all_digits s ≡ true → is_digit (get_or (s ++ t) 0 0) ≡ true
 unfolding all_digits
@@ -53,11 +53,11 @@ module _ (front : List ℕ) (n end : ℕ) (rest : List ℕ) (small : n < 2 ^ 64)
       let p : get_or (front ++ (decimal n ++ end ∷ rest)) (length front) 0 ≡ get_or (decimal n ++ end ∷ rest) 0 0 = rw z at (get_or-append-add front (decimal n ++ end ∷ rest) 0 0) in
       rw (p, get_or-append-add front (decimal n ++ end ∷ rest) 1 0, first_digit (decimal n) (end ∷ rest) (decimal_some n) (decimal_digits n)) (no_zero n end rest h)
 
-  field_back : field_at (front ++ (decimal n ++ end ∷ rest)) (length front) ≡ number n (length front + length (decimal n))
+  field_back : field_at (front ++ (decimal n ++ end ∷ rest)) (length front) ≡ number (n, length front + length (decimal n))
   unfolding field_at
   field_back =
       rw (starts, drop_at front (decimal n ++ end ∷ rest) (length front) refl)
-      (digits_read (decimal n) end rest 0 (length front) h (decimal_digits n) (rw (decimal_value n) small) ∙ ap (λ (v : ℕ). number v (length front + length (decimal n))) (decimal_value n))
+      (digits_read (decimal n) end rest 0 (length front) h (decimal_digits n) (rw (decimal_value n) small) ∙ ap (λ (v : ℕ). number (v, length front + length (decimal n))) (decimal_value n))
 
   ends : get_or (front ++ (decimal n ++ end ∷ rest)) (length front + length (decimal n)) 0 ≡ end
   ends =
@@ -65,7 +65,7 @@ module _ (front : List ℕ) (n end : ℕ) (rest : List ℕ) (small : n < 2 ^ 64)
       get_or-append-add front (decimal n ++ end ∷ rest) (length (decimal n)) 0 ∙ (rw z at (get_or-append-add (decimal n) (end ∷ rest) 0 0))
 
   -- THE LAW
-  pub read_back : field_ended (front ++ (decimal n ++ end ∷ rest)) (length front) end ≡ number n (length front + length (decimal n) + 1)
+  pub read_back : field_ended (front ++ (decimal n ++ end ∷ rest)) (length front) end ≡ number (n, length front + length (decimal n) + 1)
   unfolding field_ended ended_by
   read_back =
       let long : length front + length (decimal n) < length (front ++ (decimal n ++ end ∷ rest)) = simp length-append (omega arith) in

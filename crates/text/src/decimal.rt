@@ -1,20 +1,27 @@
 // Unsigned decimal numbers.
-ghost use Rattle.std.specs.Prelude.{◌+◌, ◌^◌, ◌≤◌, ◌<◌};
+ghost use Rattle.std.specs.Prelude.{[], ◌∷◌, ◌++◌};
 ghost use Rattle.text.specs.Decimal.{decimal};
 ghost use Rattle.text.specs.Put.{Put};
 
-use crate::putting::put_byte;
+use crate::putting::Writer;
 
-// The digits of the tenth, and the last digit behind them. That a word has at most 20 digits follows, and is said so that callers have it.
-#[tactic(auto, using(crate::specs::Put::put_length, crate::specs::Decimal::decimal_one))]
-pub fn put_decimal(buffer: &mut [u8], at: usize, n: u64) -> usize
-    requires { at + 20 < 2 ^ 64 }
-    ensures put { Put (decimal n) at buffer.old result buffer.new }
-    ensures upper_bound { result ≤ at + 20 }
-{
-    if n < 10 {
-        return put_byte(buffer, at, 48 + n as u8);
+impl Writer<'_> {
+    // The digits of the tenth, and the last digit behind them.
+    #[tactic(auto, using(crate::specs::Decimal::decimal_one))]
+    pub fn decimal(&mut self, n: u64)
+        ensures { Put (decimal n) self.old self.new }
+    {
+        if n < 10 {
+            return self.byte(b'0' + n as u8);
+        }
+        self.decimal(n / 10);
+        self.byte(b'0' + (n % 10) as u8);
     }
-    let next = put_decimal(buffer, at, n / 10);
-    put_byte(buffer, next, 48 + (n % 10) as u8)
+    // A decimal field with the byte that ends it.
+    pub fn field(&mut self, n: u64, end: u8)
+        ensures { Put (decimal n ++ end ∷ []) self.old self.new }
+    {
+        self.decimal(n);
+        self.byte(end);
+    }
 }

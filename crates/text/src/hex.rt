@@ -2,41 +2,24 @@
 ghost use Rattle.std.specs.Prelude.{◌≡◌, ◌+◌, ◌*◌, ◌≤◌, ◌<◌, length};
 ghost use Rattle.text.specs.Hex.{is_hex, hex_value, all_hex, hex_number};
 
+#[tactic(auto, unfolding(crate::specs::Hex::is_hex))]
 pub fn is_digit(c: u8) -> bool
     ensures { result ≡ is_hex c }
 {
-    if c < 58 {
-        return 48 <= c;
-    }
-    if c < 71 {
-        return 65 <= c;
-    }
-    (97 <= c) & (c <= 102)
+    c.is_ascii_hexdigit()
 }
 
 // The value of a digit; 0 for a byte that is none.
+#[tactic(auto, unfolding(crate::specs::Hex::hex_value))]
 pub fn value(c: u8) -> u8
     ensures { (result ≡ hex_value c) × (result < 16) }
 {
-    if c < 48 {
-        return 0;
+    match c {
+        b'0'..=b'9' => c - b'0',
+        b'A'..=b'F' => c - b'A' + 10,
+        b'a'..=b'f' => c - b'a' + 10,
+        _ => 0,
     }
-    if c < 58 {
-        return c - 48;
-    }
-    if c < 65 {
-        return 0;
-    }
-    if c < 71 {
-        return c - 55;
-    }
-    if c < 97 {
-        return 0;
-    }
-    if c < 103 {
-        return c - 87;
-    }
-    0
 }
 
 // The byte of two digits, the higher first.
@@ -49,20 +32,7 @@ pub fn byte(high: u8, low: u8) -> u8
 pub fn all_digits(s: &[u8]) -> bool
     ensures { result ≡ all_hex s.now }
 {
-    let mut k: usize = 0;
-    while k < s.len() {
-        if !is_digit(s[k]) {
-            return false;
-        }
-        k += 1;
-    }
-    true
-}
-
-fn wide(x: u8) -> u64
-    ensures { result ≡ x }
-{
-    x as u64
+    s.iter().all(|&c| is_digit(c))
 }
 
 // The number of up to sixteen digits, the highest first.
@@ -71,10 +41,8 @@ pub fn number(s: &[u8]) -> u64
     ensures { result ≡ hex_number s.now }
 {
     let mut n: u64 = 0;
-    let mut k: usize = 0;
-    while k < s.len() {
-        n = 16 * n + wide(value(s[k]));
-        k += 1;
+    for &c in s {
+        n = 16 * n + u64::from(value(c));
     }
     n
 }

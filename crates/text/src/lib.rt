@@ -8,6 +8,5 @@ pub mod parts;
 mod putting;
 mod reading;
 
-pub use decimal::put_decimal;
-pub use putting::{put_byte, put_text};
-pub use reading::{Field, read_decimal, read_field};
+pub use putting::Writer;
+pub use reading::{read_decimal, read_field};

@@ -10,14 +10,7 @@ pub const LINE_FEED: u8 = 10;
 pub fn place(s: &[u8], c: u8) -> usize
     ensures { result ≡ length (before c s.now) }
 {
-    let mut k: usize = 0;
-    while k < s.len() {
-        if s[k] == c {
-            return k;
-        }
-        k += 1;
-    }
-    k
+    s.iter().position(|&x| x == c).unwrap_or(s.len())
 }
 
 // The place of the first c from a place on, or the length.
@@ -29,6 +22,7 @@ pub fn place_from(s: &[u8], at: usize, c: u8) -> usize
 }
 
 // The part before the first c.
+#[tactic(auto, using(crate::proofs::Places::within, crate::proofs::Places::taken))]
 pub fn part_before(s: &[u8], c: u8) -> &[u8]
     ensures { result.now ≡ before c s.now }
 {
@@ -37,13 +31,10 @@ pub fn part_before(s: &[u8], c: u8) -> &[u8]
 }
 
 // The part behind the first c; an empty one where there is none.
+#[tactic(auto, using(crate::proofs::Places::behind_it, crate::proofs::Places::behind_nothing))]
 pub fn part_behind(s: &[u8], c: u8) -> &[u8]
     ensures { result.now ≡ behind c s.now }
 {
     let at = place(s, c);
-    if at < s.len() {
-        let next = at + 1;
-        return &s[next..];
-    }
-    &s[at..]
+    if at < s.len() { &s[at + 1..] } else { &[] }
 }

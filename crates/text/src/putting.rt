@@ -1,28 +1,44 @@
-// Bytes put at a place of a lent buffer. Each function answers the next place. What has no room is cut off and yet counted,
-// so that a writer run over an empty buffer tells the length of its text.
-ghost use Rattle.std.specs.Prelude.{[], ◌∷◌, ◌+◌, ◌^◌, ◌<◌, length};
-ghost use Rattle.text.specs.Put.{Put};
+// A text put into a lent buffer, from its front on. What has no room is cut off and yet counted, so that a writer over an empty buffer tells
+// the length of its text; nothing can overflow, since the count stays at the highest word.
+ghost use Rattle.std.specs.Prelude.{◌≡◌, [], ◌∷◌};
+ghost use Rattle.text.specs.Put.{Begun, Put};
 
-pub fn put_byte(buffer: &mut [u8], at: usize, byte: u8) -> usize
-    requires { at + 1 < 2 ^ 64 }
-    ensures { Put (byte ∷ []) at buffer.old result buffer.new }
-{
-    if buffer.len() <= at {
-        return at + 1;
-    }
-    buffer[at] = byte;
-    at + 1
+// It has no `fmt::Write`: what `write!` puts may fail by its contract, and nothing fails here.
+#[derive(Drop)]
+pub struct Writer<'a> {
+    buffer: &'a mut [u8],
+    // the length of the text so far
+    at: usize,
 }
 
-pub fn put_text(buffer: &mut [u8], at: usize, text: &[u8]) -> usize
-    requires { at + length text.now < 2 ^ 64 }
-    ensures { Put text.now at buffer.old result buffer.new }
-{
-    let mut next = at;
-    let mut k: usize = 0;
-    while k < text.len() {
-        next = put_byte(buffer, next, text[k]);
-        k += 1;
+impl<'a> Writer<'a> {
+    pub fn new(buffer: &'a mut [u8]) -> Writer<'a>
+        ensures { Begun buffer.entry result }
+    {
+        Writer { buffer, at: 0 }
     }
-    next
+
+    // The length of the text so far.
+    pub fn length(&self) -> usize
+        ensures { result ≡ self.now.at }
+    {
+        self.at
+    }
+
+    pub fn byte(&mut self, byte: u8)
+        ensures { Put (byte ∷ []) self.old self.new }
+    {
+        if self.at < self.buffer.len() {
+            self.buffer[self.at] = byte;
+        }
+        self.at = self.at.saturating_add(1);
+    }
+
+    pub fn text(&mut self, text: &[u8])
+        ensures { Put text.now self.old self.new }
+    {
+        for byte in text {
+            self.byte(*byte);
+        }
+    }
 }

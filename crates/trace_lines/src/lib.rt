@@ -2,9 +2,9 @@
 
 #![tactic(auto)]
 
-ghost use Rattle.std.specs.Prelude.{◌≡◌, ◌+◌, ◌^◌, ◌≤◌, ◌<◌, length, drop};
+ghost use Rattle.std.specs.Prelude.{◌≡◌, List, ℕ};
 ghost use Rattle.text.specs.Decimal.{decimal};
-ghost use Rattle.text.specs.Put.{Put};
+ghost use Rattle.text.specs.Put.{Put, written};
 ghost use Rattle.report_lines.specs.Lines.{line};
 ghost use Rattle.trace.specs.Line.{target_of, target_text, trace_line};
 ghost use Rattle.trace.specs.Verdict.{begins as begins_of};
@@ -13,7 +13,7 @@ use isa::decoding::{is_bad, loaded_target, result_target};
 use machine::{Accessed, NONE};
 use register_lines::put_named;
 use report_lines::put_number;
-use text::{put_byte, put_decimal};
+use text::Writer;
 
 // The loaded word's target goes before the result's; 15 for none.
 #[tactic(auto, using(crate::proofs::Ways::loaded))]
@@ -32,54 +32,49 @@ pub fn target_of(w: Accessed) -> u8
     result_target(i, w.holds)
 }
 
+// A line of the trace: which instruction, from 1, where it stands, the cycle of its end, its target, and the target's value afterwards.
+#[derive(Clone, Copy)]
+pub struct Line {
+    pub number: u64,
+    pub address: u64,
+    pub cycle: u64,
+    pub target: u8,
+    pub value: u64,
+}
+
 // The target's name, or a dash, and its value.
-fn put_target(buffer: &mut [u8], at: usize, target: u8, value: u64) -> usize
-    requires { at + 25 < 2 ^ 64 }
-    ensures put { Put (line (target_text target) (decimal value)) at buffer.old result buffer.new }
-    ensures upper_bound { result ≤ at + 25 }
+fn put_target(out: &mut Writer<'_>, target: u8, value: u64)
+    ensures { Put (line (target_text target) (decimal value)) out.old out.new }
 {
     if target < NONE {
-        put_named(buffer, at, target as usize, value)
+        put_named(out, usize::from(target), value);
     } else {
-        put_number(buffer, at, b"-", value)
+        put_number(out, b"-", value);
     }
 }
 
-pub fn put_line(
-    buffer: &mut [u8],
-    at: usize,
-    number: u64,
-    address: u64,
-    cycle: u64,
-    target: u8,
-    value: u64,
-) -> usize
-    requires { at + 88 < 2 ^ 64 }
-    ensures put { Put (trace_line number address cycle target value) at buffer.old result buffer.new }
-    ensures upper_bound { result ≤ at + 88 }
+pub fn put_line(out: &mut Writer<'_>, line: Line)
+    ensures { Put (trace_line line.number line.address line.cycle line.target line.value) out.old out.new }
 {
-    let a = put_decimal(buffer, at, number);
-    let b = put_byte(buffer, a, b'\t');
-    let c = put_decimal(buffer, b, address);
-    let d = put_byte(buffer, c, b'\t');
-    let e = put_decimal(buffer, d, cycle);
-    let f = put_byte(buffer, e, b'\t');
-    put_target(buffer, f, target, value)
+    out.field(line.number, b'\t');
+    out.field(line.address, b'\t');
+    out.field(line.cycle, b'\t');
+    put_target(out, line.target, line.value);
+}
+
+// No line is longer than 88 bytes, so that it always fits.
+pub fn write_line(line: Line, out: &mut [u8; 88]) -> usize
+    ensures { ◌≡◌ {A = ℕ × List ℕ} (result, out.new)
+        (written (trace_line line.number line.address line.cycle line.target line.value) out.old) }
+{
+    let mut writer = Writer::new(out);
+    put_line(&mut writer, line);
+    writer.length()
 }
 
 // The text begins with the line.
 pub fn begins(line: &[u8], text: &[u8]) -> bool
     ensures { result ≡ begins_of line.now text.now }
 {
-    let mut k: usize = 0;
-    while k < line.len() {
-        if text.len() <= k {
-            return false;
-        }
-        if line[k] != text[k] {
-            return false;
-        }
-        k += 1;
-    }
-    true
+    text.starts_with(line)
 }

@@ -2,136 +2,91 @@
 
 #![tactic(auto)]
 
-ghost use Rattle.std.specs.Prelude.{◌≡◌, ◌+◌, ◌<◌, ◌≤◌, length, pos, ◌+ℤ◌, ◌-ℤ◌, int_lt};
+ghost use Rattle.std.specs.Prelude.{◌≡◌, true, false, ltb, ◌+◌, MatchOption, take, drop, pos, ◌+ℤ◌, ◌-ℤ◌, int_lt};
 ghost use Rattle.std.specs.Int.{w64};
 ghost use Rattle.machine.specs.Memory.{lent, inside as inside_of, load as load_of, store as store_of};
-ghost use Rattle.machine.specs.Words.{difference as difference_of, number, outside, placed, signed, sum as sum_of};
+ghost use Rattle.machine.specs.Words.{difference as difference_of, outside, signed, sum as sum_of};
 
-// A byte as a word; the bound spares each caller the fact that a byte fits.
-fn wide(b: u8) -> u64
-    ensures { (result ≡ b) × (result < 256) }
+// The eight bytes from `at` on, if they are inside.
+#[tactic(auto, using(crate::proofs::Bytes::none_left))]
+fn eight_at(memory: &[u8], at: u64) -> Option<&[u8; 8]>
+    ensures { MatchOption result
+        (inside_of (lent memory.now) at ≡ false)
+        (λ bytes. (inside_of (lent memory.now) at ≡ true) × (bytes.now ≡ take 8 (drop at memory.now))) }
 {
-    b as u64
+    memory.get(at as usize..)?.first_chunk()
 }
 
-// "inside exactly when a + 7, without wrapping, is below N": a sum that wrapped is below `at`.
+// "inside exactly when a + 7, without wrapping, is below N"
 pub fn inside(memory: &[u8], at: u64) -> bool
     ensures { result ≡ inside_of (lent memory.now) at }
 {
-    let last = std::num::wrapping_add_u64(at, 7);
-    let size = memory.len() as u64;
-    (at <= last) & (last < size)
+    eight_at(memory, at).is_some()
 }
 
-// The number in the eight bytes from `at` on, taken from the last byte down, as the definition recurses.
-fn number_at(memory: &[u8], at: usize) -> u64
-    requires { at + 8 ≤ length memory.now }
-    ensures { result ≡ number 8 memory.now at }
+// The word at a reaches the address or goes past it; no sum is made that could wrap.
+pub fn reaches(a: u64, address: u64) -> bool
+    ensures { result ≡ ltb address (a + 8) }
 {
-    let mut n: u64 = 0;
-    let mut k: usize = 8;
-    while 0 < k {
-        k -= 1;
-        n = wide(memory[at + k]) + 256 * n;
+    if address < a {
+        return true;
     }
-    n
+    address - a < 8
 }
 
 // The word at `at`: "A load outside memory reads 0".
+#[tactic(auto, using(crate::proofs::Bytes::number_is), unfolding(machine::specs::Memory::load))]
 pub fn load(memory: &[u8], at: u64) -> u64
     ensures { result ≡ load_of (lent memory.now) at }
 {
-    if inside(memory, at) {
-        number_at(memory, at as usize)
-    } else {
-        0
-    }
-}
-
-// The eight bytes of v from `at` on, the least first, as the definition recurses.
-fn place_at(memory: &mut [u8], at: usize, v: u64)
-    requires { at + 8 ≤ length memory.old }
-    ensures { memory.new ≡ placed 8 memory.old at v }
-{
-    let mut place = at;
-    let mut rest = v;
-    let mut left: usize = 8;
-    while 0 < left {
-        memory[place] = (rest % 256) as u8;
-        place += 1;
-        rest /= 256;
-        left -= 1;
+    match eight_at(memory, at) {
+        Some(bytes) => u64::from_le_bytes(*bytes),
+        None => 0,
     }
 }
 
 // The word v to `at`: "a store outside writes nothing".
+#[tactic(auto, using(crate::proofs::Bytes::inside_room, crate::proofs::Bytes::placed_is), unfolding(machine::specs::Memory::store))]
 pub fn store(memory: &mut [u8], at: u64, v: u64)
     ensures { lent memory.new ≡ store_of (lent memory.old) at v }
 {
     if inside(memory, at) {
-        place_at(memory, at as usize, v);
+        let at = at as usize;
+        memory[at..at + 8].copy_from_slice(&v.to_le_bytes());
     }
 }
 
+#[tactic(auto, unfolding(machine::specs::Words::sum))]
 pub fn sum(b: u64, a: u64) -> u64
     ensures { result ≡ sum_of b a }
 {
-    std::num::wrapping_add_u64(b, a)
+    b.wrapping_add(a)
 }
 
+#[tactic(auto, unfolding(machine::specs::Words::difference))]
 pub fn difference(b: u64, a: u64) -> u64
     ensures { result ≡ difference_of b a }
 {
-    std::num::wrapping_sub_u64(b, a)
+    b.wrapping_sub(a)
 }
 
-// A word read as signed; one in the upper half as -1 less its complement, so that each step fits.
-fn signed_word(x: u64) -> i64
-    ensures { result ≡ signed x }
-{
-    if x < 9223372036854775808 {
-        x as i64
-    } else {
-        -1 - ((u64::MAX - x) as i64)
-    }
-}
-
+#[tactic(auto, unfolding(machine::specs::Words::signed))]
 pub fn negative(x: u64) -> bool
     ensures { result ≡ int_lt (signed x) (pos 0) }
 {
-    signed_word(x) < 0
+    x.cast_signed() < 0
 }
 
-// b + a lies outside, tested without making the sum: the end that a moves toward, less a, does not wrap.
-fn signed_sum_outside(b: i64, a: i64) -> bool
-    ensures { result ≡ outside w64 (b +ℤ a) }
-{
-    if 0 <= a { // b goes up
-        i64::MAX - a < b
-    } else {
-        b < i64::MIN - a
-    }
-}
-
-// b - a lies outside. Not the sum with -a, which does not exist for the least a.
-fn signed_difference_outside(b: i64, a: i64) -> bool
-    ensures { result ≡ outside w64 (b -ℤ a) }
-{
-    if 0 <= a { // b goes down
-        b < i64::MIN + a
-    } else {
-        i64::MAX + a < b
-    }
-}
-
+#[tactic(auto, using(crate::proofs::Overflow::outside_is), unfolding(machine::specs::Words::signed))]
 pub fn sum_outside(b: u64, a: u64) -> bool
     ensures { result ≡ outside w64 (signed b +ℤ signed a) }
 {
-    signed_sum_outside(signed_word(b), signed_word(a))
+    b.cast_signed().overflowing_add(a.cast_signed()).1
 }
 
+#[tactic(auto, using(crate::proofs::Overflow::outside_is), unfolding(machine::specs::Words::signed))]
 pub fn difference_outside(b: u64, a: u64) -> bool
     ensures { result ≡ outside w64 (signed b -ℤ signed a) }
 {
-    signed_difference_outside(signed_word(b), signed_word(a))
+    b.cast_signed().overflowing_sub(a.cast_signed()).1
 }

@@ -1,47 +1,81 @@
--- A line put piece by piece. Assumes nothing.
-use mathlib.Core.Path.{◌≡◌, subst}
-use mathlib.Core.Bool.{Bool, true, false}
+-- How long a line is. Assumes nothing.
+use mathlib.Core.Bool.{Bool, true, false, cond}
 use mathlib.Core.List.{List, [], ◌∷◌, ◌++◌}
-use Prim.Native.Nat.{ℕ, ◌+◌, ◌-◌, ◌≤◌}
+use mathlib.Core.Path.{◌≡◌, refl}
+use Prim.Native.Nat.{ℕ, zero, suc, ◌+◌, ◌-◌, ◌/◌, ◌^◌, ◌≤◌, ◌<◌}
+use Prim.Native.String.{String}
+use Rattle.std.proofs.Common.{max, w8, Fits}
 use native.Mathlib.Omega.{arith}
-use lib.ListN.{length, take, drop, length-take}
-use Rattle.machine.specs.declared.Instruction.{Instruction}
-use Rattle.machine.specs.declared.Status.TheVariants.{Aok as aok}
+use lib.Dec.{ltb}
+use lib.ListN.{length, take, drop, get_or, length-take, length-append}
 use Rattle.machine.specs.Memory.{Memory}
-use Rattle.published.specs.Fetching.{aok_at}
-use Rattle.listing.specs.Grammar.{Remark, remarked, line}
-use Rattle.text.specs.Parts.{tab, line_feed}
-use Rattle.text.specs.Put.{Put, put_both, put_nothing}
-use Rattle.writing.specs.HexText.{hex_text, hex_pairs}
-use Rattle.writing.specs.Remark.{remark}
+use Rattle.machine.specs.declared.Status.TheVariants.{Aok as aok}
+use Rattle.word.proofs.Bytes.{number_below}
+use Rattle.machine.specs.Table.{row_of}
+use Rattle.published.specs.Fetching.{M₁, aok_at}
+use Rattle.listing.specs.Grammar.{remarked, line}
+use Rattle.text.specs.Bytes.{bytes, longest, at_most_longest}
+use Rattle.text.specs.Decimal.{word_length}
+use Rattle.text.specs.Parts.{line_feed}
+use Rattle.register_lines.specs.Registers.{name_length}
+use Rattle.writing.specs.Remark.{Operands, nothing, pair, immediate, store, load, target, single, mnemonics, mnemonic, operands_of, register, operands, remark}
 use Rattle.writing.specs.Text.{noted, line_of}
 use Rattle.writing.specs.There.{there_at}
-use Rattle.writing.specs.Back.{pairs_length}
+use Rattle.writing.specs.Back.{address_length, pairs_length}
 
--- the remark, where there is one
-pub note_put : (w : Bool) (m : Memory) (a : ℕ) {i j k : ℕ} {t u v : List ℕ} → w ≡ true → Put (tab ∷ []) i t j u → Put (remark aok (there_at m a)) j u k v
-    → Put (remarked (noted w (there_at m a))) i t k v
-unfolding remarked aok_at
-note_put w m a e x y = rw e (put_both x y)
+register_length : (k : ℕ) → length (register k) ≤ 4
+unfolding register bytes
+register_length k = omega (arith, name_length k)
 
-pub no_note : (w : Bool) (n : Instruction) (i : ℕ) (t : List ℕ) → w ≡ false → Put (remarked (noted w n)) i t i t
-unfolding remarked
-no_note w n i t e = rw e (put_nothing i t)
+operands_length : (o : Operands) (a b c : ℕ) → c < 2 ^ 64 → length (operands o a b c) ≤ 42
+unfolding operands bytes
+operands_length nothing a b c h = omega arith
+operands_length pair a b c h = simp length-append (omega (arith, register_length a, register_length b))
+operands_length immediate a b c h = simp length-append (omega (arith, register_length b, word_length c h))
+operands_length store a b c h = simp length-append (omega (arith, register_length a, register_length b, word_length c h))
+operands_length load a b c h = simp length-append (omega (arith, register_length a, register_length b, word_length c h))
+operands_length target a b c h = omega (arith, word_length c h)
+operands_length single a b c h = omega (arith, register_length a)
 
--- the bytes that the code cuts out of memory
-abbrev pub cut_bytes : (m : List ℕ) (a n : ℕ) → List ℕ
-cut_bytes m a n = take (a + n - a) (drop a m)
+unfoldable longest_row : List (List String) → ℕ
+longest_row [] = 0
+longest_row (r ∷ t) = max (longest r) (longest_row t)
 
-pub pairs_place : (m : List ℕ) (a n : ℕ) {i j : ℕ} {t u : List ℕ} → n ≤ 10 → Put (hex_pairs (cut_bytes m a n)) i t j u → j ≤ i + 20
-pairs_place m a n h x =
-    let l : length (cut_bytes m a n) ≤ n = simp length-take (omega arith) in
-    omega (arith, x.place, pairs_length (cut_bytes m a n))
+row_short : (t : List (List String)) (k : ℕ) → longest (get_or t k []) ≤ longest_row t
+unfolding longest_row longest
+row_short [] k = omega arith
+row_short (r ∷ t) zero = omega arith
+row_short (r ∷ t) (suc k) = omega (arith, row_short t k)
 
--- all of it
-pub line_put : (m : List ℕ) (a n : ℕ) (r : Remark) {i j k l o p : ℕ} {t u v w x y : List ℕ} → Put (hex_text a) i t j u → Put (tab ∷ []) j u k v
-    → Put (hex_pairs (cut_bytes m a n)) k v l w → Put (remarked r) l w o x → Put (line_feed ∷ []) o x p y
-    → Put (line (line_of a (take n (drop a m)) r) ++ line_feed ∷ []) i t p y
-unfolding line
-line_put m a n r {k = k} {l = l} {v = v} {w = w} address gap pairs note feed =
-    let e : a + n - a ≡ n = omega arith in
-    put_both (put_both address (put_both gap (put_both (subst (λ (j : ℕ). Put (hex_pairs (take j (drop a m))) k v l w) e pairs) note))) feed
+mnemonic_length : (code f : ℕ) → length (mnemonic code f) ≤ 6
+unfolding mnemonic mnemonics longest_row longest bytes
+mnemonic_length code f =
+    let most : longest_row mnemonics ≡ 6 = refl in
+    omega (arith, at_most_longest (get_or mnemonics code []) f, row_short mnemonics code)
+
+module _ (m : Memory) (a : ℕ) (b : (i : ℕ) → Fits w8 (get_or m.bytes i 0)) where
+  constant_small : (there_at m a).constant < 2 ^ 64
+  unfolding aok_at
+  constant_small = go (ltb 8 (row_of (M₁ m a / 16)).size) (number_below m.bytes b 8 (a + ((row_of (M₁ m a / 16)).size - 8)))
+    where
+      go : (t : Bool) {n : ℕ} → n < 256 ^ 8 → cond t n 0 < 2 ^ 64
+      go true h = omega arith
+      go false h = omega arith
+
+  remark_length : length (remark aok (there_at m a)) ≤ 48
+  unfolding remark
+  remark_length =
+      let i = there_at m a in
+      simp length-append
+      (omega (arith, mnemonic_length i.code i.function, operands_length (get_or operands_of i.code nothing) i.ra i.rb i.constant constant_small))
+
+  note_length : (w : Bool) → length (remarked (noted w (there_at m a))) ≤ 49
+  unfolding remarked aok_at
+  note_length true = omega (arith, remark_length)
+  note_length false = omega arith
+
+  pub line_length : (n : ℕ) (w : Bool) → n ≤ 10 → length (line (line_of a (take n (drop a m.bytes)) (noted w (there_at m a))) ++ line_feed ∷ []) ≤ 90
+  unfolding line
+  line_length n w h =
+      let l : length (take n (drop a m.bytes)) ≤ n = simp length-take (omega arith) in
+      simp length-append (omega (arith, address_length a, pairs_length (take n (drop a m.bytes)), note_length w))

@@ -1,8 +1,10 @@
 -- What starts at an address and what is shown of it, by its bytes. Assumes nothing.
-use Prim.Native.Nat.{ℕ, ◌+◌, ◌-◌, ◌/◌, ◌%◌, ◌<◌, ◌≤◌}
+use Prim.Native.Nat.{ℕ, zero, suc, ◌+◌, ◌-◌, ◌/◌, ◌%◌, ◌<◌, ◌≤◌}
 use mathlib.Core.Path.{◌≡◌, refl, ap, sym, ◌∙◌, subst}
 use mathlib.Core.Bool.{Bool, true, false, cond, not, ◌&&◌, ◌||◌}
 use mathlib.Core.List.{List, ◌++◌, append-nil}
+use mathlib.Core.Logic.{⊎_elim}
+use native.Mathlib.Nat.{eq-or-lt_of_le}
 use native.Mathlib.Omega.{arith}
 use lib.Dec.{leb, ltb, eqb}
 use lib.ListN.{length, get_or, get_or-eq_default}
@@ -15,14 +17,11 @@ use Rattle.machine.specs.Table.{Row, RegisterByte, no_byte, both_named, only_b, 
 use Rattle.machine.specs.Fetch.{size_at, stopping, names_a, names_b, half, misnamed, checked, fetch}
 use Rattle.laws.specs.Tests.{or_true}
 use Rattle.published.specs.Fetching.{M₁, aok_at, fetch_is}
-use Rattle.text.specs.Parts.{Text}
-use Rattle.text.specs.Put.{Put, put_both}
 use Rattle.encoding.specs.Encode.{fields, encode_refused}
 use Rattle.listing.specs.Grammar.{some}
 use Rattle.writing.specs.Remark.{nothing, operands_of, operands, mnemonic, remark}
 use Rattle.writing.specs.Text.{starts, starts_at, within_end, whole, noted}
 use Rattle.writing.specs.There.{there_at}
-use Rattle.writing.proofs.Naming.{each}
 
 -- BYTES AND SIZES, by what the code has at hand
 pub byte_behind : (b : List ℕ) (k : ℕ) → length b ≤ k → 0 ≡ get_or b k 0
@@ -95,6 +94,15 @@ module _ (m : Memory) (a : ℕ) (first : a < size m) (all : code_end m a ≡ siz
           let few : ltb (size m) (a + size_at m a) ≡ true = lt-ltb (size m) (a + size_at m a) (omega (arith, leb-false n (size m - a) h)) in
           rw (passed, few, or_true (leb row.functions (M₁ m a % 16))) refl
 
+-- what is computed of each number below n holds of any of them
+abbrev Each : (P : ℕ → Type 0) → ℕ → Type 0
+Each P zero = Unit {0}
+Each P (suc n) = P n × Each P n
+
+each : (P : ℕ → Type 0) (n : ℕ) → Each P n → (q : ℕ) → q < n → P q
+each P zero x q h = absurd (omega arith)
+each P (suc n) x q h = ⊎_elim (λ (e : q ≡ n). subst P (sym e) x.0) (λ (l : q < n). each P n x.1 q l) (eq-or-lt_of_le (omega arith))
+
 -- WHAT IS SHOWN
 -- a half that names no register
 abbrev Unseen : ℕ → Type 0
@@ -113,16 +121,14 @@ unseen code = go (ltb code 13) refl
     go false h = λ a b c. rw (get_or-eq_default operands_of nothing (ltb-false code 13 h)) refl
 
 -- the remark of what is there, by its bytes
-pub shown : (m : Memory) (a f p n c : ℕ) {i j k : ℕ} {t u v : List ℕ} → f ≡ M₁ m a → p ≡ M₁ m (a + 1) → n ≡ (row_of (f / 16)).size
+pub shown : (m : Memory) (a f p n c : ℕ) → f ≡ M₁ m a → p ≡ M₁ m (a + 1) → n ≡ (row_of (f / 16)).size
     → c ≡ cond (ltb 8 n) (number 8 m.bytes (a + (n - 8))) 0
-    → Put (mnemonic (f / 16) (f % 16)) i t j u → Put (operands (get_or operands_of (f / 16) nothing) (p / 16) (p % 16) c) j u k v
-    → Put (remark aok (there_at m a)) i t k v
+    → mnemonic (f / 16) (f % 16) ++ operands (get_or operands_of (f / 16) nothing) (p / 16) (p % 16) c ≡ remark aok (there_at m a)
 unfolding remark aok_at
-shown m a f p n c {i} {j} {k} {t} {u} {v} g q s e x y =
+shown m a f p n c g q s e =
     let code = M₁ m a / 16 in
     let constant : c ≡ (there_at m a).constant = rw (e, s, g) refl in
-    let whole : mnemonic (f / 16) (f % 16) ++ operands (get_or operands_of (f / 16) nothing) (p / 16) (p % 16) c ≡ remark aok (there_at m a) = rw (g, q, constant, unseen code (M₁ m (a + 1) / 16) (M₁ m (a + 1) % 16) (there_at m a).constant) refl in
-    subst (λ (s : Text). Put s i t k v) whole (put_both x y)
+    rw (g, q, constant, unseen code (M₁ m (a + 1) / 16) (M₁ m (a + 1) % 16) (there_at m a).constant) refl
 
 -- a halt, which is fetched as a nop
 remark_checked : (first function later named halts : Bool) (i : Instruction) → i.status ≡ aok → (halts ≡ true → (i.code ≡ 0) × (function ≡ false → i.function ≡ 0))

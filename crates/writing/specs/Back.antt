@@ -26,7 +26,7 @@ use Rattle.machine.specs.declared.Status.TheVariants.{Aok as aok, Hlt as hlt, Ad
 use Rattle.text.specs.Bytes.{bytes}
 use Rattle.text.specs.Decimal.{decimal, all_digits, decimal_digits}
 use Rattle.text.specs.PartsLaws.{has_joined}
-use Rattle.text.specs.Put.{Put, put_both}
+use Rattle.text.specs.Put.{sets_both}
 use Rattle.register_lines.specs.Registers.{register_names, register_name}
 use Rattle.writing.specs.Remark.{mnemonics, mnemonic, Operands, nothing, pair, immediate, store, load, target, single, operands_of, register, operands, remark}
 use Rattle.writing.specs.HexText.{hex_digit, hex_digits, hex_text, hex_pairs}
@@ -91,6 +91,10 @@ digits_length (suc k) n = go (ltb n 16) (digits_length k (n / 16))
         (1 ≤ length t) × (length t ≤ suc (suc k))
     go true ih = (omega arith, omega arith)
     go false ih = (simp length-append (omega arith), simp length-append (omega (arith, ih.1)))
+
+pub address_length : (n : ℕ) → length (hex_text n) ≤ 16
+unfolding hex_text
+address_length n = (digits_length 15 n).1
 
 digits_value : (k n : ℕ) → n < 16 ^ suc k → hex_from 0 (hex_digits k n) ≡ n
 unfolding hex_digits hex_from
@@ -302,15 +306,13 @@ module _ (m : Memory) (bytes_there : Bytes m.bytes) (e : ℕ) (inside : e ≤ si
           let p = line_bytes_lem cut m a e before in
           let s = take n (drop a m.bytes) in
           let t = take (e - (a + n)) (drop (a + n) m.bytes) in
-          let x : Put s a u (a + length s) (sets u a s) = record { place = refl; lent = refl } in
-          let y : Put t (a + length s) (sets u a s) (a + length s + length t) (sets (sets u a s) (a + length s) t) = record { place = refl; lent = refl } in
           let here : sets u (address_of (line_at cut m a e)) (bytes_of (line_at cut m a e)) ≡ sets u a s = cc (line_address cut a before, line_said cut a before) in
           let range : n + (e - (a + n)) ≡ e - a = omega (arith, p.2) in
           let all : take (e - a) (drop a m.bytes) ≡ s ++ t = ap (λ (k : ℕ). take k (drop a m.bytes)) (sym range)
           ∙ (take-add n (e - (a + n)) (drop a m.bytes) ∙ ap (λ (l : List ℕ). s ++ take (e - (a + n)) l) (drop-drop n a m.bytes)) in
           ap (laid rest) here
           ∙ (ih (sets u a s) (omega (arith, p.0))
-          ∙ (ap (λ (k : ℕ). sets (sets u a s) (a + k) t) (sym (long cut a before)) ∙ ((put_both x y).lent ∙ ap (sets u a) (sym all))))
+          ∙ (ap (λ (k : ℕ). sets (sets u a s) (a + k) t) (sym (long cut a before)) ∙ (sym (sets_both s t u a) ∙ ap (sets u a) (sym all))))
       go false q ih =
           let l = ltb-false a e q in
           let z : e - a ≡ 0 = omega arith in

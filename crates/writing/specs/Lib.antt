@@ -2,5 +2,4 @@ pub mod HexText
 pub mod Remark
 pub mod Text
 pub mod There
-pub mod Words
 pub mod Back

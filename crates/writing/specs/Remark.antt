@@ -8,6 +8,9 @@ use Rattle.text.specs.Bytes.{bytes}
 use Rattle.text.specs.Decimal.{decimal}
 use Rattle.text.specs.Parts.{Text}
 use Rattle.register_lines.specs.Registers.{register_name}
+pub use Rattle.writing.specs.declared.remarks.Operands.{Operands}
+pub use Rattle.writing.specs.declared.remarks.Operands.TheVariants.{Nothing as nothing, Pair as pair, Immediate as immediate, Store as store, Load as load}
+pub use Rattle.writing.specs.declared.remarks.Operands.TheVariants.{Target as target, Single as single}
 
 -- the instructions' names, by code and function
 unfoldable pub mnemonics : List (List String)
@@ -30,11 +33,7 @@ mnemonics =
 unfoldable pub mnemonic : (code function : ℕ) → Text
 mnemonic code function = bytes (get_or (get_or mnemonics code []) function "")
 
--- what stands behind the name: nothing; `rA, rB`; `$C, rB`; `rA, C(rB)`; `C(rB), rA`; `C`; `rA`
-pub data Operands : Type 0 where
-  nothing pair immediate store load target single : Operands
-
--- by code
+-- what stands behind the name, by code
 unfoldable pub operands_of : List Operands
 operands_of =
     nothing  -- halt

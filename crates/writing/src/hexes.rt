@@ -1,59 +1,50 @@
 // Hex in lower case.
-ghost use Rattle.std.specs.Prelude.{[], ◌∷◌, ◌+◌, ◌*◌, ◌^◌, ◌≤◌, ◌<◌, length};
+ghost use Rattle.std.specs.Prelude.{[], ◌∷◌, ◌<◌};
 ghost use Rattle.text.specs.Put.{Put};
 ghost use Rattle.writing.specs.HexText.{hex_digit, hex_digits, hex_text, hex_pairs};
 
-use text::put_byte;
+use text::Writer;
 
-fn put_digit(buffer: &mut [u8], at: usize, digit: u8) -> usize
-    requires { (at + 1 < 2 ^ 64) × (digit < 16) }
-    ensures { Put (hex_digit digit ∷ []) at buffer.old result buffer.new }
+fn put_digit(out: &mut Writer<'_>, digit: u8)
+    requires { digit < 16 }
+    ensures { Put (hex_digit digit ∷ []) out.old out.new }
 {
     if digit < 10 {
-        return put_byte(buffer, at, 48 + digit);
+        out.byte(b'0' + digit);
+    } else {
+        out.byte(87 + digit);
     }
-    put_byte(buffer, at, 87 + digit)
 }
 
 // The digits of the sixteenth, and the last digit behind them.
 #[tactic(auto, using(crate::proofs::Digits::one_hex))]
-fn put_digits(buffer: &mut [u8], at: usize, left: usize, n: u64) -> usize
-    requires { at + left + 1 < 2 ^ 64 }
-    ensures put { Put (hex_digits left n) at buffer.old result buffer.new }
-    ensures upper_bound { result ≤ at + left + 1 }
+fn put_digits(out: &mut Writer<'_>, left: usize, n: u64)
+    ensures { Put (hex_digits left n) out.old out.new }
 {
     let last = (n % 16) as u8;
     if left == 0 {
-        return put_digit(buffer, at, last);
+        return put_digit(out, last);
     }
     if n < 16 {
-        return put_digit(buffer, at, last);
+        return put_digit(out, last);
     }
-    let next = put_digits(buffer, at, left - 1, n / 16);
-    put_digit(buffer, next, last)
+    put_digits(out, left - 1, n / 16);
+    put_digit(out, last);
 }
 
 // An address.
-pub fn put_hex(buffer: &mut [u8], at: usize, n: u64) -> usize
-    requires { at + 16 < 2 ^ 64 }
-    ensures put { Put (hex_text n) at buffer.old result buffer.new }
-    ensures upper_bound { result ≤ at + 16 }
+pub fn put_hex(out: &mut Writer<'_>, n: u64)
+    ensures { Put (hex_text n) out.old out.new }
 {
-    put_digits(buffer, at, 15, n)
+    put_digits(out, 15, n);
 }
 
 // Two digits for each byte.
-pub fn put_pairs(buffer: &mut [u8], at: usize, bytes: &[u8]) -> usize
-    requires { at + 2 * length bytes.now < 2 ^ 64 }
-    ensures { Put (hex_pairs bytes.now) at buffer.old result buffer.new }
+pub fn put_pairs(out: &mut Writer<'_>, bytes: &[u8])
+    ensures { Put (hex_pairs bytes.now) out.old out.new }
 {
-    let mut next = at;
-    let mut k: usize = 0;
-    while k < bytes.len() {
-        let byte = bytes[k];
-        next = put_digit(buffer, next, byte / 16);
-        next = put_digit(buffer, next, byte % 16);
-        k += 1;
+    for byte in bytes {
+        put_digit(out, *byte / 16);
+        put_digit(out, *byte % 16);
     }
-    next
 }

@@ -8,36 +8,27 @@ mod reaching;
 mod remarks;
 mod words;
 
-ghost use Rattle.std.specs.Prelude.{◌≤◌, length, cond, ◌≡◌};
+ghost use Rattle.std.specs.Prelude.{◌^◌, ◌<◌, ◌≤◌, length};
 ghost use Rattle.machine.specs.Memory.{lent};
 ghost use Rattle.text.specs.Put.{Put};
 ghost use Rattle.writing.specs.Text.{listing_of};
 
 use crate::lines::put_line;
-use crate::reaching::{crosses, size_at, starts, whole};
+use crate::reaching::reach;
+use text::Writer;
 
-fn count_of(whole: bool, size: u64) -> u64
-    ensures { result ≡ cond whole size 1 }
-{
-    if whole { size } else { 1 }
-}
-
-// The lines from a start up to an end, not itself written.
-pub fn put_listing(buffer: &mut [u8], memory: &[u8], start: u64, end: u64) -> usize
+// The lines from a start up to an end, not itself written. No line is longer than 90 bytes, so that the length is a word.
+pub fn put_listing(out: &mut Writer<'_>, memory: &[u8], start: u64, end: u64)
     requires { (end ≤ length memory.now) × (length memory.now ≤ 65536) }
-    ensures { Put (listing_of (lent memory.now) start end) 0 buffer.old result buffer.new }
+    ensures put { Put (listing_of (lent memory.now) start end) out.old out.new }
+    ensures short { length (listing_of (lent memory.now) start end) < 2 ^ 64 }
 {
-    let mut next: usize = 0;
     let mut at = start;
     let mut cut = false;
     while at < end {
-        let size = size_at(memory, at);
-        let started = starts(memory, at, size);
-        let one = whole(memory, started, size, at, end, cut);
-        let count = count_of(one, size);
-        next = put_line(buffer, next, memory, at, count, one);
-        cut = crosses(memory, started, size, at, end, cut);
-        at += count;
+        let next = reach(memory, at, end, cut);
+        put_line(out, memory, at, next.count, next.whole);
+        cut = next.crosses;
+        at += next.count;
     }
-    next
 }

@@ -1,10 +1,10 @@
 // What a line takes in.
-ghost use Rattle.std.specs.Prelude.{◌≡◌, ◌+◌, ◌^◌, ◌≤◌, ◌<◌, length, get_or};
+ghost use Rattle.std.specs.Prelude.{◌≡◌, ◌≤◌, ◌<◌, length, get_or};
 ghost use Rattle.machine.specs.Memory.{lent};
 ghost use Rattle.machine.specs.Fetch.{size_at};
-ghost use Rattle.writing.specs.Text.{starts_at, whole as whole_of, crosses as crosses_of};
+ghost use Rattle.writing.specs.Text.{starts_at, whole, crosses, line_bytes};
 
-use encoding::refused;
+use encoding::Fields;
 use lookup::size_of;
 
 // A byte of memory, or 0 behind it.
@@ -15,18 +15,18 @@ pub fn byte_at(memory: &[u8], at: usize) -> u8
 }
 
 // The table length of the instruction at an address.
-pub fn size_at(memory: &[u8], address: u64) -> u64
+fn size_at(memory: &[u8], address: u64) -> u64
     requires { address < length memory.now }
     ensures { (result ≡ size_at (lent memory.now) address) × (result < 256) }
 {
     let at = address as usize;
     let first = memory[at];
-    size_of(first / 16) as u64
+    u64::from(size_of(first / 16))
 }
 
 // An instruction starts at an address: its bytes are there, and an encoder would take what they say. The clock's fetch is not called: with two callers
 // it would not be compiled in place in the clock.
-pub fn starts(memory: &[u8], address: u64, size: u64) -> bool
+fn starts(memory: &[u8], address: u64, size: u64) -> bool
     requires { (address < length memory.now) × (size ≡ size_at (lent memory.now) address) × (length memory.now ≤ 65536) }
     ensures { result ≡ starts_at (lent memory.now) address }
 {
@@ -34,23 +34,35 @@ pub fn starts(memory: &[u8], address: u64, size: u64) -> bool
     let first = byte_at(memory, at);
     let pair = byte_at(memory, at + 1);
     let there = size <= memory.len() as u64 - address;
-    let code = (first / 16) as u64;
-    let function = (first % 16) as u64;
-    there & !refused(code, function, (pair / 16) as u64, (pair % 16) as u64, 0)
+    let said = Fields {
+        code: u64::from(first / 16),
+        function: u64::from(first % 16),
+        ra: u64::from(pair / 16),
+        rb: u64::from(pair % 16),
+        constant: 0,
+    };
+    there & !said.refused()
 }
 
-// The line at an address is an instruction.
-pub fn whole(memory: &[u8], started: bool, size: u64, address: u64, end: u64, cut: bool) -> bool
-    requires { (started ≡ starts_at (lent memory.now) address) × (size ≡ size_at (lent memory.now) address) × (address + size < 2 ^ 64) }
-    ensures { result ≡ whole_of cut (lent memory.now) address end }
-{
-    !cut & (started & (address + size <= end))
+// What the line at an address takes in: an instruction or a single byte, how many bytes, and whether the rest of the range is single bytes.
+#[derive(Clone, Copy)]
+pub struct Extent {
+    pub whole: bool,
+    pub count: u64,
+    pub crosses: bool,
 }
 
-// The rest of the range is single bytes.
-pub fn crosses(memory: &[u8], started: bool, size: u64, address: u64, end: u64, cut: bool) -> bool
-    requires { (started ≡ starts_at (lent memory.now) address) × (size ≡ size_at (lent memory.now) address) × (address + size < 2 ^ 64) }
-    ensures { result ≡ crosses_of cut (lent memory.now) address end }
+pub fn reach(memory: &[u8], address: u64, end: u64, cut: bool) -> Extent
+    requires { (address < end) × (end ≤ length memory.now) × (length memory.now ≤ 65536) }
+    ensures { (result.whole ≡ whole cut (lent memory.now) address end) × (result.count ≡ line_bytes cut (lent memory.now) address end)
+        × (result.crosses ≡ crosses cut (lent memory.now) address end) }
 {
-    cut | (started & !(address + size <= end))
+    let size = size_at(memory, address);
+    let started = starts(memory, address, size);
+    let whole = !cut & (started & (address + size <= end));
+    Extent {
+        whole,
+        count: if whole { size } else { 1 },
+        crosses: cut | (started & !(address + size <= end)),
+    }
 }

@@ -1,55 +1,60 @@
 // The words of a remark: the instructions' names, and the registers' with their sign.
-ghost use Rattle.std.specs.Prelude.{◌≡◌, ◌+◌, ◌^◌, ◌≤◌, ◌<◌};
+ghost use Rattle.std.specs.Prelude.{◌≡◌, [], map, get_or};
+ghost use Rattle.text.specs.Bytes.{bytes, texts};
 ghost use Rattle.text.specs.Put.{Put};
-ghost use Rattle.writing.specs.Remark.{mnemonic, register};
-ghost use Rattle.writing.specs.Words.{word_at};
+ghost use Rattle.writing.specs.Remark.{mnemonics, mnemonic, register};
 
-use lookup::functions_of;
-use text::parts::part_before;
-use text::{put_byte, put_text};
+use register_lines::name_of;
+use text::Writer;
 
-// Six bytes each, filled up with spaces.
-const WORDS: [u8; 258] =
-    *b"halt  nop   rrmovqcmovlecmovl cmove cmovnecmovgecmovg irmovqrmmovqmrmovqaddq  subq  andq  xorq  jmp   jle   jl    je    jne   jge   jg    call  ret   pushq popq  iaddq %rax  %rcx  %rdx  %rbx  %rsp  %rbp  %rsi  %rdi  %r8   %r9   %r10  %r11  %r12  %r13  %r14  ";
+// By code and function.
+const MNEMONICS: [&[&str]; 13] = [
+    &["halt"],
+    &["nop"],
+    &[
+        "rrmovq", "cmovle", "cmovl", "cmove", "cmovne", "cmovge", "cmovg",
+    ],
+    &["irmovq"],
+    &["rmmovq"],
+    &["mrmovq"],
+    &["addq", "subq", "andq", "xorq"],
+    &["jmp", "jle", "jl", "je", "jne", "jge", "jg"],
+    &["call"],
+    &["ret"],
+    &["pushq"],
+    &["popq"],
+    &["iaddq"],
+];
 
-// The place of a code's first word, its other functions behind it.
-const FIRST: [u8; 13] = [0, 1, 2, 9, 10, 11, 12, 16, 23, 24, 25, 26, 27];
-
-const FIRST_REGISTER: usize = 28;
-
-fn put_word(buffer: &mut [u8], at: usize, k: usize) -> usize
-    requires { (k < 43) × (at + 6 < 2 ^ 64) }
-    ensures put { Put (word_at k) at buffer.old result buffer.new }
-    ensures upper_bound { result ≤ at + 6 }
+// The names of a code's functions; a code past the last instruction has none.
+fn names_of(code: usize) -> &'static [&'static str]
+    ensures { texts result.now ≡ map bytes (get_or mnemonics code []) }
 {
-    let words = WORDS;
-    let from = 6 * k;
-    let end = from + 6;
-    put_text(buffer, at, part_before(&words[from..end], b' '))
+    if code < 13 { MNEMONICS[code] } else { &[] }
 }
 
-// An instruction's name, by its code and function; a function that is not in the table has none.
-pub fn put_mnemonic(buffer: &mut [u8], at: usize, code: u8, function: u8) -> usize
-    requires { at + 6 < 2 ^ 64 }
-    ensures put { Put (mnemonic code function) at buffer.old result buffer.new }
-    ensures upper_bound { result ≤ at + 6 }
+// An instruction's name; a function that is not in the table has none.
+fn mnemonic_of(code: usize, function: usize) -> &'static str
+    ensures { result.now ≡ mnemonic code function }
 {
-    if functions_of(code) <= function {
-        return at;
+    let names = names_of(code);
+    if function < names.len() {
+        names[function]
+    } else {
+        ""
     }
-    let row = code as usize;
-    let first = FIRST[row];
-    put_word(buffer, at, first as usize + function as usize)
+}
+
+pub fn put_mnemonic(out: &mut Writer<'_>, code: u8, function: u8)
+    ensures { Put (mnemonic code function) out.old out.new }
+{
+    out.text(mnemonic_of(code as usize, function as usize).as_bytes());
 }
 
 // A register's name, with its sign; 15 and above have none.
-pub fn put_register(buffer: &mut [u8], at: usize, number: u8) -> usize
-    requires { at + 6 < 2 ^ 64 }
-    ensures put { Put (register number) at buffer.old result buffer.new }
-    ensures upper_bound { result ≤ at + 6 }
+pub fn put_register(out: &mut Writer<'_>, number: u8)
+    ensures { Put (register number) out.old out.new }
 {
-    if 15 <= number {
-        return put_byte(buffer, at, b'%');
-    }
-    put_word(buffer, at, FIRST_REGISTER + number as usize)
+    out.byte(b'%');
+    out.text(name_of(number as usize));
 }

@@ -11,9 +11,12 @@ use Rattle.machine.specs.Memory.{lent}
 use Rattle.machine.specs.Runs.{size_refused, lowest}
 use Rattle.answers.specs.Refusals.{failed}
 use Rattle.laws.specs.Tests.{neither}
-use Rattle.text.specs.Put.{Put, put_front}
+use Rattle.std.specs.Borrow.{MutBor}
+use Rattle.text.specs.declared.putting.Writer.{Writer}
+use Rattle.text.specs.Put.{Begun, Put, put_front}
 use Rattle.block.specs.Block.{with_words}
-use Rattle.encoding.specs.Encode.{Fields, encode_refused, form}
+use Rattle.encoding.specs.declared.Fields.{Fields}
+use Rattle.encoding.specs.Encode.{encode_refused, form}
 use Rattle.writing.specs.Text.{listing_of}
 use Rattle.writing_edge.specs.Writings.{written, fitted, encode_refusal, encoded, range_refused, list_refusal, listing_written}
 
@@ -23,11 +26,14 @@ module _ (t b l l' : List ℕ) (n : ℕ) (long : n ≡ length t) (told : l' ≡ 
   unfolding fitted
   too_short h = rw (lt-ltb (length b) (length t) (omega arith), told, long) refl
 
-  pub fits : {m : ℕ} {b' : List ℕ} → n ≤ length b → Put t 0 b m b' → written 0 b' l' ≡ fitted t b l
+  -- b' is what the writer leaves behind the reference that it was lent
+  pub fits : (r : MutBor (List ℕ)) {v w : Writer} {b' : List ℕ} → r.now ≡ b → n ≤ length b → Begun r v → Put t v w
+      → (r.ghost_name ≡ w.buffer.ghost_name → b' ≡ w.buffer.now) → written 0 b' l' ≡ fitted t b l
   unfolding fitted
-  fits {m} {b'} h x =
-      let e : b' ≡ t ++ drop (length t) b = ap (λ (y : ℕ × List ℕ). y.1) (put_front x (omega arith)) in
-      rw (le-ltb (length b) (length t) (omega arith), told, long, e) refl
+  fits r {w = w} {b' = b'} is h o x left =
+      let e : w.buffer.now ≡ t ++ drop (length t) r.now = ap (λ (y : ℕ × List ℕ). y.1) (put_front o x (omega (arith, ap length is))) in
+      let f : b' ≡ t ++ drop (length t) b = left (sym (x.same ∙ o.same)) ∙ (e ∙ ap (λ (s : List ℕ). t ++ drop (length t) s) is) in
+      rw (le-ltb (length b) (length t) (omega arith), told, long, f) refl
 
 -- THE ENCODER'S REFUSALS, in their order
 module _ (l : ℕ) (i : Fields) where
@@ -59,9 +65,10 @@ module _ (b l : List ℕ) (i : Fields) (n : ℕ) (h : n ≡ encode_refusal (leng
     unfolding encoded
     encode_too_short s = cc (eq-eqb n 0 z, too_short (form i) b l l' m long told s)
 
-    pub encode_fits : {k : ℕ} {b' : List ℕ} → m ≤ length b → Put (form i) 0 b k b' → written 0 b' l' ≡ encoded b l i
+    pub encode_fits : (r : MutBor (List ℕ)) {v w : Writer} {b' : List ℕ} → r.now ≡ b → m ≤ length b → Begun r v → Put (form i) v w
+        → (r.ghost_name ≡ w.buffer.ghost_name → b' ≡ w.buffer.now) → written 0 b' l' ≡ encoded b l i
     unfolding encoded
-    encode_fits s x = cc (eq-eqb n 0 z, fits (form i) b l l' m long told s x)
+    encode_fits r is s o x left = cc (eq-eqb n 0 z, fits (form i) b l l' m long told r is s o x left)
 
 -- THE LISTING'S REFUSALS, in their order
 module _ (size l start end : ℕ) where
@@ -102,6 +109,7 @@ module _ (m t l : List ℕ) (start end n : ℕ) (h : n ≡ list_refusal (length 
     unfolding listing_written
     listing_too_short s = cc (eq-eqb n 0 z, too_short (listing_of (lent m) start end) t l l' k long told s)
 
-    pub listing_fits : {i : ℕ} {t' : List ℕ} → k ≤ length t → Put (listing_of (lent m) start end) 0 t i t' → written 0 t' l' ≡ listing_written m t l start end
+    pub listing_fits : (r : MutBor (List ℕ)) {v w : Writer} {t' : List ℕ} → r.now ≡ t → k ≤ length t → Begun r v → Put (listing_of (lent m) start end) v w
+        → (r.ghost_name ≡ w.buffer.ghost_name → t' ≡ w.buffer.now) → written 0 t' l' ≡ listing_written m t l start end
     unfolding listing_written
-    listing_fits s x = cc (eq-eqb n 0 z, fits (listing_of (lent m) start end) t l l' k long told s x)
+    listing_fits r is s o x left = cc (eq-eqb n 0 z, fits (listing_of (lent m) start end) t l l' k long told r is s o x left)

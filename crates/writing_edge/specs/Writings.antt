@@ -3,7 +3,8 @@ use Rattle.std.specs.Prelude.{ℕ, Bool, cond, not, ◌||◌, List, [], ◌∷�
 use Rattle.machine.specs.Memory.{lent}
 use Rattle.machine.specs.Runs.{size_refused, lowest}
 use Rattle.block.specs.Block.{with_words}
-use Rattle.encoding.specs.Encode.{Fields, encode_refused, form}
+use Rattle.encoding.specs.declared.Fields.{Fields}
+use Rattle.encoding.specs.Encode.{encode_refused, form}
 use Rattle.writing.specs.Text.{listing_of}
 
 -- the answer, and what the two lent slices hold

@@ -4,51 +4,44 @@
 
 ghost use Rattle.std.specs.Prelude.{◌≡◌, ◌≤◌, length};
 ghost use Rattle.machine.specs.Memory.{lent};
-ghost use Rattle.encoding.specs.Encode.{fields};
 ghost use Rattle.writing.specs.Text.{listing_of};
 ghost use Rattle.writing_edge.specs.Writings.{written, encode_refusal, encoded, range_refused, list_refusal, listing_written};
 
 use block::write_words;
+use encoding::Fields;
+use text::Writer;
 use writing::put_listing;
 
 // The lowest refusal that applies before the length is known, or 0.
 #[tactic(auto, using(crate::proofs::Ways::no_block))]
-fn encode_refusal(told: usize, code: u64, function: u64, ra: u64, rb: u64, constant: u64) -> u64
-    ensures { result ≡ encode_refusal told (fields code function ra rb constant) }
+fn encode_refusal(told: usize, i: Fields) -> u64
+    ensures { result ≡ encode_refusal told i }
 {
     if told != 8 {
         return 4;
     }
-    if encoding::refused(code, function, ra, rb, constant) {
+    if i.refused() {
         return 5;
     }
     0
 }
 
 // The bytes of an instruction.
-pub fn encode(
-    bytes: &mut [u8],
-    told: &mut [u8],
-    code: u64,
-    function: u64,
-    ra: u64,
-    rb: u64,
-    constant: u64,
-) -> u64
-    ensures { written result bytes.new told.new
-        ≡ encoded bytes.old told.old (fields code function ra rb constant) }
+pub fn encode(bytes: &mut [u8], told: &mut [u8], i: Fields) -> u64
+    ensures { written result bytes.new told.new ≡ encoded bytes.old told.old i }
 {
-    let number = encode_refusal(told.len(), code, function, ra, rb, constant);
+    let number = encode_refusal(told.len(), i);
     if number != 0 {
         return number;
     }
-    let needed = encoding::form_length(code, function, ra, rb, constant);
+    let needed = i.length();
     let words = [needed as u64];
     write_words(told, &words);
     if bytes.len() < needed {
         return 8;
     }
-    encoding::put_form(bytes, 0, code, function, ra, rb, constant);
+    let mut out = Writer::new(bytes);
+    i.put(&mut out);
     0
 }
 
@@ -81,7 +74,9 @@ fn listing_length(memory: &[u8], start: u64, end: u64) -> usize
     ensures { result ≡ length (listing_of (lent memory.now) start end) }
 {
     let mut nothing = [0u8; 0];
-    put_listing(&mut nothing, memory, start, end)
+    let mut out = Writer::new(&mut nothing);
+    put_listing(&mut out, memory, start, end);
+    out.length()
 }
 
 // The listing of memory from a start up to an end.
@@ -100,6 +95,7 @@ pub fn write_listing(memory: &[u8], text: &mut [u8], told: &mut [u8], start: u64
     if text.len() < needed {
         return 8;
     }
-    put_listing(text, memory, start, end);
+    let mut out = Writer::new(text);
+    put_listing(&mut out, memory, start, end);
     0
 }

@@ -1,11 +1,7 @@
--- The invariant `Writes`: the first k words stand in the block, at eight bytes each, and the rest of it is as it was. The measure is the words left.
-use Rattle.block.proofs.Blocks.{Writes}
-use lib.ListN.{length}
-use Prim.Native.Nat.{◌-◌}
+-- The first k words stand in the block, at eight bytes each, and the rest of it is as it was.
+use Rattle.std.proofs.Common.{◌≡◌, take}
+use Rattle.block.specs.Block.{with_words}
 use Rattle.block.proofs.write_words.Given as goal
 
 abbrev pub invariant-loop-k : goal.invariant-loop-k
-invariant-loop-k l = Writes l.initial.block l.words l.block l.k
-
-abbrev pub decreases-loop-k : goal.decreases-loop-k
-decreases-loop-k l = length l.words - l.k
+invariant-loop-k l = l.block ≡ with_words (take l.k l.words) l.initial.block 0

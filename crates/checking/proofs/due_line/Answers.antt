@@ -10,12 +10,12 @@ pub overflow_add-number : goal.overflow_add-number
 overflow_add-number c =
     omega (arith, c.requires.few)
 
-pub overflow_add-number-2 : goal.overflow_add-number-2
-overflow_add-number-2 c =
+pub overflow_add-line : goal.overflow_add-line
+overflow_add-line c =
     omega (arith, c.requires.few)
 
-pub overflow_add-number-3 : goal.overflow_add-number-3
-overflow_add-number-3 c =
+pub overflow_add-line-2 : goal.overflow_add-line-2
+overflow_add-line-2 c =
     omega (arith, c.charge_of.ensures.1, c.requires.few, c.requires.cheap)
 
 pub passed-next-requires : goal.passed-next-requires

@@ -1,13 +1,10 @@
-use Rattle.dayreport.proofs.Ways.{judged_numbered, request_refused, request_done}
+use Rattle.dayreport.proofs.Ways.{request_refused, request_done}
 use Rattle.dayreport.proofs.report_request.Goals as goal
 
 pub returns-then-image_refused : goal.returns-then-image_refused
 returns-then-image_refused c =
     request_refused c.args.request _ _ _ c.image_refused.ensures
     c.if-image_refused.true c.write_refusal.ensures
-
-pub write_answer-requires : goal.write_answer-requires
-write_answer-requires c = judged_numbered _ _ _ _ _ c.judge.ensures
 
 pub returns : goal.returns
 returns c =

@@ -1,22 +1,15 @@
-use borrow.Author.Tests.{ne_eqb}
+use Rattle.fetching.proofs.Parse.{none_named, both, second_named, first_named}
 use borrow.Author.Rules.{rules}
-use Rattle.fetching.specs.Halves.{misnamed_by}
 use Rattle.fetching.proofs.misnamed.Goals as goal
 
-pub returns-in-1 : goal.returns-in-1
-unfolding misnamed_by
-returns-in-1 c = rw c.in-1.is
+pub returns-in-NoByte : goal.returns-in-NoByte
+returns-in-NoByte c = search (rules, none_named)
 
-pub returns-in-2 : goal.returns-in-2
-unfolding misnamed_by
-returns-in-2 c = rw c.in-2.is
+pub returns-in-BothNamed : goal.returns-in-BothNamed
+returns-in-BothNamed c = search (rules, both)
 
-pub returns-in-3 : goal.returns-in-3
-unfolding misnamed_by
-returns-in-3 c = rw c.in-3.is
+pub returns-in-OnlyB : goal.returns-in-OnlyB
+returns-in-OnlyB c = search (rules, second_named)
 
-pub returns-in_default : goal.returns-in_default
-unfolding misnamed_by
-returns-in_default c =
-    let byte = c.args.byte in
-    simp (ne_eqb byte 1 (search rules), ne_eqb byte 2 (search rules), ne_eqb byte 3 (search rules))
+pub returns-in-OnlyA : goal.returns-in-OnlyA
+returns-in-OnlyA c = search (rules, first_named)

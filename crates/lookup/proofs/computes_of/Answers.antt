@@ -1,8 +1,9 @@
 use Rattle.lookup.proofs.Entries.{column}
+use borrow.Author.Rules.{rules}
 use Rattle.machine.specs.Table.{Row, table}
-use Rattle.lookup.specs.Numbers.{computes_number}
+use Rattle.lookup.specs.Kinds.{computes_meant}
 use Rattle.lookup.proofs.computes_of.Goals as goal
 
 pub returns : goal.returns
-unfolding table computes_number
-returns c = column (λ (r : Row). computes_number r.computes) _ _ c.entry.ensures
+unfolding table computes_meant
+returns c = search (rules, column computes_meant (λ (r : Row). r.computes))

@@ -1,7 +1,9 @@
 use Rattle.lookup.proofs.Entries.{column}
+use borrow.Author.Rules.{rules}
+use Prim.Native.Nat.{ℕ}
 use Rattle.machine.specs.Table.{Row, table}
 use Rattle.lookup.proofs.size_of.Goals as goal
 
 pub returns : goal.returns
 unfolding table
-returns c = column (λ (r : Row). r.size) _ _ c.entry.ensures
+returns c = search (rules, column (λ (n : ℕ). n) (λ (r : Row). r.size))

@@ -1,8 +1,9 @@
 use Rattle.lookup.proofs.Entries.{column}
+use borrow.Author.Rules.{rules}
 use Rattle.machine.specs.Table.{Row, table}
-use Rattle.lookup.specs.Numbers.{which_number}
+use Rattle.lookup.specs.Kinds.{which_meant}
 use Rattle.lookup.proofs.target_of.Goals as goal
 
 pub returns : goal.returns
-unfolding table which_number
-returns c = column (λ (r : Row). which_number r.target) _ _ c.entry.ensures
+unfolding table which_meant
+returns c = search (rules, column which_meant (λ (r : Row). r.target))

@@ -1,6 +1,7 @@
-use Rattle.report.proofs.Ways.{end}
-use native.Mathlib.Omega.{arith}
+use Rattle.text.specs.Put.{put_both}
+use Rattle.report.specs.Report.{end_lines}
 use Rattle.report.proofs.put_end.Goals as goal
 
 pub returns : goal.returns
-returns c = record { put = end _ c.put_status-a.ensures.put c.put_counts-b.ensures.put c.put_kinds-c.ensures.put c.put_registers.ensures.put; upper_bound = omega arith }
+unfolding end_lines
+returns c = put_both (put_both (put_both c.put_status.ensures c.put_counts.ensures) c.put_kinds.ensures) c.put_registers.ensures

@@ -1,15 +1,19 @@
-use Rattle.report.proofs.Ways.{answered, refused}
-use borrow.Author.Rules.{rules}
-use mathlib.Core.Path.{◌≡◌}
-use Rattle.text.specs.Bytes.{bytes}
 use native.Mathlib.Omega.{arith}
+use borrow.Author.Rules.{rules}
+use Rattle.text.specs.Put.{put_front}
+use Rattle.report.specs.Laws.{report_length}
 use Rattle.report.proofs.write_report.Goals as goal
 
-pub returns-in-Ok : goal.returns-in-Ok
-unfolding bytes
-returns-in-Ok c = rw c.in-Ok.is (answered c.in-Ok.end (search rules) c.put_text-first.ensures (omega arith) c.put_end.ensures.put)
-
-pub returns-in-Err : goal.returns-in-Err
-unfolding bytes
-returns-in-Err c =
-    rw c.in-Err.is (refused c.in-Err.refused.given (search rules) c.put_text-first.ensures (omega arith) c.in-Err.refused.why (rw c.from.ensures at c.put_number.ensures.put))
+pub returns : goal.returns
+returns c =
+    let r = report_length c.args.number c.args.end (omega arith)
+    (record {
+      last = omega arith;
+      retired = omega arith;
+      cycles = omega arith;
+      loaduse = omega arith;
+      mispredict = omega arith;
+      returned = omega arith;
+      registers = λ i. search rules;
+    }) in
+    rw c.length.ensures (put_front c.new-writer.ensures c.put_report.ensures (omega arith))

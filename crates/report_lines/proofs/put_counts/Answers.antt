@@ -1,12 +1,9 @@
-use Rattle.report_lines.proofs.Ways.{counts}
 use Rattle.text.specs.Bytes.{bytes}
-use native.Mathlib.Omega.{arith}
+use Rattle.text.specs.Put.{put_both}
+use Rattle.report_lines.specs.Lines.{count_lines}
 use Rattle.report_lines.proofs.put_counts.Goals as goal
 
 pub returns : goal.returns
-unfolding bytes
-returns c = record {
-  put = counts _ _ c.from.ensures c.put_number-a.ensures.put
-      c.put_number-b.ensures.put c.put_number-c.ensures.put c.put_number.ensures.put;
-  upper_bound = omega arith;
-}
+unfolding count_lines bytes
+returns c =
+    put_both (put_both (put_both c.put_number.ensures (rw c.from.ensures at c.put_number-2.ensures)) c.put_number-3.ensures) c.put_number-4.ensures

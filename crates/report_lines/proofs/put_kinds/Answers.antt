@@ -1,8 +1,8 @@
-use Rattle.report_lines.proofs.Ways.{kinds}
 use Rattle.text.specs.Bytes.{bytes}
-use native.Mathlib.Omega.{arith}
+use Rattle.text.specs.Put.{put_both}
+use Rattle.report_lines.specs.Lines.{kind_lines}
 use Rattle.report_lines.proofs.put_kinds.Goals as goal
 
 pub returns : goal.returns
-unfolding bytes
-returns c = record { put = kinds _ c.put_number-a.ensures.put c.put_number-b.ensures.put c.put_number.ensures.put; upper_bound = omega arith }
+unfolding kind_lines bytes
+returns c = put_both (put_both c.put_number.ensures c.put_number-2.ensures) c.put_number-3.ensures

@@ -1,6 +1,9 @@
-use Rattle.report_lines.proofs.Ways.{number_line_lem}
-use native.Mathlib.Omega.{arith}
+use Rattle.std.proofs.Common.{append_assoc}
+use Rattle.text.specs.Bytes.{bytes}
+use Rattle.text.specs.Put.{put_both}
+use Rattle.report_lines.specs.Lines.{line}
 use Rattle.report_lines.proofs.put_number.Goals as goal
 
 pub returns : goal.returns
-returns c = record { put = number_line_lem _ c.put_text-tab.ensures c.put_byte-digits.ensures c.put_decimal-end.ensures.put c.put_byte.ensures; upper_bound = omega arith }
+unfolding line bytes
+returns c = rw append_assoc (put_both (put_both c.text.ensures c.byte.ensures) c.field.ensures)

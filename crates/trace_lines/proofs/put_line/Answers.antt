@@ -1,10 +1,11 @@
-use Rattle.trace_lines.proofs.Ways.{whole_line}
-use native.Mathlib.Omega.{arith}
+use Rattle.std.proofs.Common.{append_assoc}
+use Rattle.text.specs.Bytes.{bytes}
+use Rattle.text.specs.Put.{put_both}
+use Rattle.trace.specs.Line.{trace_line}
 use Rattle.trace_lines.proofs.put_line.Goals as goal
 
 pub returns : goal.returns
-returns c = record {
-  put = whole_line _ _ _ _ _ c.put_decimal-a.ensures.put c.put_byte-b.ensures c.put_decimal-c.ensures.put c.put_byte-d.ensures
-      c.put_decimal-e.ensures.put c.put_byte-f.ensures c.put_target.ensures.put;
-  upper_bound = omega arith;
-}
+unfolding trace_line bytes
+returns c =
+    simp append_assoc
+    (simp append_assoc at (put_both c.field.ensures (put_both c.field-2.ensures (put_both c.field-3.ensures c.put_target.ensures))))

@@ -1,11 +1,13 @@
-use Rattle.trace_lines.proofs.Ways.{named, dash}
-use Rattle.text.specs.Bytes.{bytes}
+use borrow.Author.Tests.{lt-ltb, le-ltb}
 use native.Mathlib.Omega.{arith}
+use Rattle.text.specs.Bytes.{bytes}
+use Rattle.trace.specs.Line.{target_text}
 use Rattle.trace_lines.proofs.put_target.Goals as goal
 
 pub returns-then-target-lt-NONE : goal.returns-then-target-lt-NONE
-returns-then-target-lt-NONE c = record { put = named _ _ c.if-target-lt-NONE.true c.put_named.ensures.put; upper_bound = omega arith }
+unfolding target_text
+returns-then-target-lt-NONE c = rw (lt-ltb c.args.target 15 (omega arith)) (rw c.from.ensures at c.put_named.ensures)
 
 pub returns-else-target-lt-NONE : goal.returns-else-target-lt-NONE
-unfolding bytes
-returns-else-target-lt-NONE c = record { put = dash _ _ c.if-target-lt-NONE.false c.put_number.ensures.put; upper_bound = omega arith }
+unfolding target_text bytes
+returns-else-target-lt-NONE c = rw (le-ltb c.args.target 15 (omega arith)) c.put_number.ensures

@@ -1,45 +1,45 @@
 use native.Mathlib.Omega.{arith}
-use borrow.Author.Rules.{rules}
-use Rattle.text.specs.Put.{put_length}
-use Rattle.writing.proofs.Loop.{begins, count_bounds, whole_inside, turn, ends}
+use Rattle.machine.specs.Memory.{lent}
+use Rattle.writing.specs.Back.{line_bytes_lem, whole_within}
+use Rattle.writing.proofs.Line.{line_length}
+use Rattle.writing.proofs.Loop.{begins, turn, ends, stays_short}
+use mathlib.Core.Path.{◌∙◌, sym}
 use Rattle.writing.proofs.put_listing.Goals as goal
 
 pub loop-at-init : goal.loop-at-init
-loop-at-init c = (omega arith, omega arith, begins _ _ _ _)
+loop-at-init c = begins _ _ _ _ (omega arith)
 
-pub starts-started-requires : goal.starts-started-requires
-starts-started-requires c =
-    (omega arith, search rules, c.requires.1)
-
-pub whole-one-requires : goal.whole-one-requires
-whole-one-requires c = (search rules, search rules, omega arith)
-
-pub put_line-next-requires : goal.put_line-next-requires
-put_line-next-requires c =
-    let bounds = count_bounds _ _ _ _ _ _ _ c.whole-one.ensures c.size_at-size.ensures.0 c.count_of-count.ensures c.loop-at-test.true in
-    let whole = whole_inside _ _ _ _ _ _ _ c.whole-one.ensures c.size_at-size.ensures.0 c.count_of-count.ensures in
-    (omega arith, omega (arith, bounds.2), bounds.1, λ t. omega (arith, whole t), c.requires.1)
-
-pub crosses-cut-requires : goal.crosses-cut-requires
-crosses-cut-requires c = (search rules, search rules, omega arith)
+pub put_line-requires : goal.put_line-requires
+put_line-requires c =
+    let m = lent c.args.memory.now in
+    let r = c.reach-next.ensures in
+    let b = line_bytes_lem c.loop-at.cut m c.loop-at.at c.args.end c.loop-at-test.true in (
+      omega (arith, b.2, r.1, c.requires.0),
+      λ t. omega (arith, whole_within c.loop-at.cut m c.loop-at.at c.args.end (sym r.0 ∙ t), c.requires.0),
+      c.requires.1,
+    )
 
 pub overflow_add-at : goal.overflow_add-at
 overflow_add-at c =
-    let bounds = count_bounds _ _ _ _ _ _ _ c.whole-one.ensures c.size_at-size.ensures.0 c.count_of-count.ensures c.loop-at-test.true in
-    omega (arith, bounds.2)
+    let b = line_bytes_lem c.loop-at.cut (lent c.args.memory.now) c.loop-at.at c.args.end c.loop-at-test.true in
+    omega (arith, b.2, c.reach-next.ensures.1, c.requires.0, c.requires.1)
 
 pub loop-at-smaller : goal.loop-at-smaller
 loop-at-smaller c =
-    let bounds = count_bounds _ _ _ _ _ _ _ c.whole-one.ensures c.size_at-size.ensures.0 c.count_of-count.ensures c.loop-at-test.true in
-    omega (arith, bounds.0, bounds.2)
+    let b = line_bytes_lem c.loop-at.cut (lent c.args.memory.now) c.loop-at.at c.args.end c.loop-at-test.true in
+    omega (arith, b.0, b.2, c.reach-next.ensures.1)
 
 pub loop-at-preserved : goal.loop-at-preserved
 loop-at-preserved c =
-    let bounds = count_bounds _ _ _ _ _ _ _ c.whole-one.ensures c.size_at-size.ensures.0 c.count_of-count.ensures c.loop-at-test.true in
-    (omega arith, omega (arith, bounds.0), search (rules, turn))
+    let m = lent c.args.memory.now in
+    let r = c.reach-next.ensures in
+    let b = line_bytes_lem c.loop-at.cut m c.loop-at.at c.args.end c.loop-at-test.true in
+    turn _ _ _ _ _ _ _ _ c.loop-at.invariant c.loop-at-test.true r.0 r.1 r.2 c.put_line.ensures
+    (line_length m c.loop-at.at c.type_inv.memory c.reach-next.result.count c.reach-next.result.whole (omega (arith, b.1, r.1)))
 
-pub shape_of-buffer : goal.shape_of-buffer
-shape_of-buffer c = put_length c.loop-at.invariant.2.put
+pub returns-clause-put : goal.returns-clause-put
+returns-clause-put c = ends _ _ _ _ _ c.loop-at.invariant c.loop-at-test.false
 
-pub returns : goal.returns
-returns c = ends _ _ _ _ _ c.loop-at.invariant.2 c.loop-at-test.false
+pub returns-clause-short : goal.returns-clause-short
+returns-clause-short c =
+    omega (arith, stays_short _ _ _ _ _ c.loop-at.invariant c.loop-at-test.false, c.requires.0, c.requires.1)

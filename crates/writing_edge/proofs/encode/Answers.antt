@@ -6,8 +6,8 @@ use Rattle.writing_edge.proofs.encode.Goals as goal
 pub returns-then-number-ne0 : goal.returns-then-number-ne0
 returns-then-number-ne0 c = search (rules, encode_refused_lem)
 
-pub form_length-needed-requires : goal.form_length-needed-requires
-form_length-needed-requires c = (let_in _ _ _ c.encode_refusal-number.ensures c.if-number-ne0.false).1
+pub length-needed-requires : goal.length-needed-requires
+length-needed-requires c = (let_in _ _ _ c.encode_refusal-number.ensures c.if-number-ne0.false).1
 
 pub write_words-requires : goal.write_words-requires
 write_words-requires c =
@@ -16,9 +16,8 @@ write_words-requires c =
 pub returns-then-bytes-needed : goal.returns-then-bytes-needed
 returns-then-bytes-needed c = search (rules, encode_too_short)
 
-pub put_form-requires : goal.put_form-requires
-put_form-requires c =
-    (omega arith, (let_in _ _ _ c.encode_refusal-number.ensures c.if-number-ne0.false).1)
+pub put-requires : goal.put-requires
+put-requires c = (let_in _ _ _ c.encode_refusal-number.ensures c.if-number-ne0.false).1
 
 pub returns : goal.returns
 returns c = search (rules, encode_fits)

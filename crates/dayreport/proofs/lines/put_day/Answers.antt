@@ -1,25 +1,13 @@
-use Rattle.dayreport.proofs.Ways.{day_missed, day_found}
-use Rattle.peaks.specs.Division.{raw_number}
 use native.Mathlib.Omega.{arith}
+use Rattle.dayreport.specs.Lines.{lines_of, day_lines}
+use Rattle.dayreport.specs.Laws.{missing_length}
 use Rattle.dayreport.proofs.lines.put_day.Goals as goal
 
-pub put_found-requires : goal.put_found-requires
-put_found-requires c = (
-  omega arith,
-  raw_number c.args.day _ c.in-GoodSamples.is
-      c.requires.1,
-)
+pub returns-in-None : goal.returns-in-None
+unfolding day_lines lines_of
+returns-in-None c =
+    rw c.in-None.is (record { put = c.put_missing.ensures; short = missing_length c.args.day (omega arith) (omega arith) })
 
-pub returns-in-NoGoodSample : goal.returns-in-NoGoodSample
-returns-in-NoGoodSample c = record {
-  put = day_missed c.args.day c.in-NoGoodSample.is
-      c.put_missing.ensures.put;
-  upper_bound = omega arith;
-}
-
-pub returns-in-GoodSamples : goal.returns-in-GoodSamples
-returns-in-GoodSamples c = record {
-  put = day_found c.args.day _
-      c.in-GoodSamples.is c.put_found.ensures.put;
-  upper_bound = omega arith;
-}
+pub returns-in-Some : goal.returns-in-Some
+unfolding day_lines lines_of
+returns-in-Some c = rw c.in-Some.is (record { put = c.put_found.ensures.put; short = c.put_found.ensures.short })

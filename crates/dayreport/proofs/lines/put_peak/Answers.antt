@@ -1,12 +1,8 @@
-use Rattle.dayreport.proofs.Ways.{peak}
 use Rattle.text.specs.Bytes.{bytes}
-use native.Mathlib.Omega.{arith}
+use Rattle.text.specs.Put.{put_both}
+use Rattle.dayreport.specs.Lines.{peak_lines}
 use Rattle.dayreport.proofs.lines.put_peak.Goals as goal
 
 pub returns : goal.returns
-unfolding bytes
-returns c = record {
-  put = peak c.args.raw
-      c.put_number-a.ensures.put c.put_number.ensures.put;
-  upper_bound = omega arith;
-}
+unfolding peak_lines bytes
+returns c = put_both c.put_number.ensures c.put_number-2.ensures

@@ -1,12 +1,8 @@
-use Rattle.dayreport.proofs.Ways.{totals}
 use Rattle.text.specs.Bytes.{bytes}
-use native.Mathlib.Omega.{arith}
+use Rattle.text.specs.Put.{put_both}
+use Rattle.dayreport.specs.Lines.{total_lines}
 use Rattle.dayreport.proofs.lines.put_totals.Goals as goal
 
 pub returns : goal.returns
-unfolding bytes
-returns c = record {
-  put = totals c.args.day
-      c.put_number-a.ensures.put c.put_number.ensures.put;
-  upper_bound = omega arith;
-}
+unfolding total_lines bytes
+returns c = put_both c.put_number.ensures c.put_number-2.ensures

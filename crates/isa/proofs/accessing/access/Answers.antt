@@ -1,6 +1,6 @@
-use Rattle.isa.proofs.Ways.{accessed_is}
+use Rattle.isa.proofs.Ways.{accessed_by}
 use borrow.Author.Rules.{rules}
 use Rattle.isa.proofs.accessing.access.Goals as goal
 
 pub returns : goal.returns
-returns c = search (rules, accessed_is)
+returns c = search (rules, accessed_by)

@@ -2,21 +2,22 @@ use Rattle.isa.proofs.Ways.{without_access, outside_memory, loaded_inside, store
 use Rattle.machine.specs.Memory.{lent}
 use Rattle.isa.proofs.accessing.access_and_update.Goals as goal
 
-pub returns-then-kind-eq-NO_ACCESS : goal.returns-then-kind-eq-NO_ACCESS
-returns-then-kind-eq-NO_ACCESS c =
-    without_access _ (lent c.args.memory.now) _ _ c.accesses_of-kind.ensures _ c.if-kind-eq-NO_ACCESS.true c.accessed.ensures
+pub returns-in-NoAccess : goal.returns-in-NoAccess
+returns-in-NoAccess c =
+    without_access _ _ c.new-access.ensures (lent c.args.memory.now) _ c.new-access.result.of_its_row _ _ c.in-NoAccess.is c.accessed.ensures
 
-pub returns-then-kind : goal.returns-then-kind
-returns-then-kind c =
-    loaded_inside _ _ _ _ c.accesses_of-kind.ensures _ c.if-kind-eq-NO_ACCESS.false _ c.access_address-at.ensures _ c.inside.ensures c.if-inside.true _
-    c.if-kind.true c.load-word.ensures c.accessed-then-kind.ensures
+pub returns-then-loads : goal.returns-then-loads
+returns-then-loads c =
+    loaded_inside _ _ c.new-access.ensures _ _ c.new-access.result.of_its_row _ _ c.in_default.not-NoAccess _ c.address-at.ensures _ c.inside.ensures
+    c.if-inside.true _ c.loads.ensures _ c.if-loads.true c.load-word.ensures c.accessed-then-loads.ensures
 
-pub returns-else-kind : goal.returns-else-kind
-returns-else-kind c =
-    stored_inside _ _ _ _ c.accesses_of-kind.ensures _ c.if-kind-eq-NO_ACCESS.false _ c.access_address-at.ensures _ c.inside.ensures c.if-inside.true _ _ _ _
-    c.if-kind.false c.stored_word.ensures c.store.ensures c.is_bad.ensures c.meets_window.ensures c.accessed-else-kind.ensures
+pub returns-else-loads : goal.returns-else-loads
+returns-else-loads c =
+    stored_inside _ _ c.new-access.ensures _ _ c.new-access.result.of_its_row _ _ c.in_default.not-NoAccess _ c.address-at.ensures _ c.inside.ensures
+    c.if-inside.true _ c.loads.ensures _ _ _ _ c.if-loads.false c.stored_word.ensures c.store.ensures c.is_bad.ensures c.meets_window.ensures
+    c.accessed-else-loads.ensures
 
 pub returns-else-inside : goal.returns-else-inside
 returns-else-inside c =
-    outside_memory _ _ _ _ c.accesses_of-kind.ensures _ c.if-kind-eq-NO_ACCESS.false _ c.access_address-at.ensures _ c.inside.ensures c.if-inside.false
-    c.accessed-else-inside.ensures
+    outside_memory _ _ c.new-access.ensures _ _ c.new-access.result.of_its_row _ _ c.in_default.not-NoAccess _ c.address-at.ensures _ c.inside.ensures
+    c.if-inside.false c.accessed-else-inside.ensures

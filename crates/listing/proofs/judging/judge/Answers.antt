@@ -1,49 +1,39 @@
-use native.Mathlib.Omega.{arith}
-use Rattle.listing.proofs.Judgement.{judges_none, judges_more, judges_all, unended, wrong_line}
+use Rattle.std.proofs.Common.{rules, tests, arith}
+use Rattle.std.proofs.lemmas.Grind.{common_steps}
+use Rattle.std.proofs.lemmas.List.{length_push}
+use Rattle.std.proofs.lemmas.Iterator.Consumers.{YieldsList-from_enumerate, YieldsList-turn, YieldsList-end}
+use Rattle.text.proofs.Lines.{YieldsList-from_split_inclusive, numbered}
+use Rattle.std.proofs.lemmas.List.FromFn.{length-enumerate_from}
+use Rattle.text.specs.Parts.{lines}
+use Rattle.listing.proofs.Judgement.{judges_none, judges_more, judges_all, wrong_line}
 use Rattle.listing.proofs.judging.judge.Goals as goal
 
-pub loop-at-init : goal.loop-at-init
-loop-at-init c = judges_none _ _
+pub returns-in_err-free : goal.returns-in_err-free
+returns-in_err-free c =
+    let y = YieldsList-from_enumerate (YieldsList-from_split_inclusive _ c.args.text.now (cc) (cc) (λ x b q k. search (rules, tests))) (cc) in
+    let t = YieldsList-turn y c.loop-passed.yielded _ c.loop-passed.yielded_by _ _ (c.in-Some.passed, c.in-Some.line) c.in-Some.is c.next.ensures.steps in
+    let m = numbered _ _ _ _ t in
+    let w = wrong_line _ _ _ _ c.loop-passed.invariant _ (m.0, m.2) _ c.check_ended.ensures in
+    let e = c.in_err-free.ensures.cases in
+    let v = c.in_err-free.ensures.variant in
+    let f = c.from_residual.ensures in
+    grind (arith, common_steps, w)
 
-pub place_from-end-requires : goal.place_from-end-requires
-place_from-end-requires c = omega arith
-
-pub overflow_add-result : goal.overflow_add-result
-overflow_add-result c = omega (arith, c.loop-at.invariant.few)
-
-pub returns-then-text-end : goal.returns-then-text-end
-returns-then-text-end c = unended _ _ _ _ _ c.loop-at.invariant _ c.place_from-end.ensures.0 c.loop-at-test.true c.if-text-end.true
-
-pub slice_bounds-check-count : goal.slice_bounds-check-count
-slice_bounds-check-count c = omega (arith, c.place_from-end.ensures.0)
-
-pub slice_bounds-check-start : goal.slice_bounds-check-start
-slice_bounds-check-start c = omega (arith, c.place_from-end.ensures.0)
-
-pub slice_bounds-check-end : goal.slice_bounds-check-end
-slice_bounds-check-end c = omega (arith, c.place_from-end.ensures.1)
-
-pub overflow_add-result-in-Wrong : goal.overflow_add-result-in-Wrong
-overflow_add-result-in-Wrong c = omega (arith, c.loop-at.invariant.few)
-
-pub returns-in-Wrong : goal.returns-in-Wrong
-returns-in-Wrong c =
-    wrong_line _ _ _ _ _ c.loop-at.invariant _ c.place_from-end.ensures.0 c.loop-at-test.true c.if-text-end.false _
-    c.check-checked.ensures _ c.in-Wrong.is
-
-pub overflow_add-passed : goal.overflow_add-passed
-overflow_add-passed c = omega (arith, c.loop-at.invariant.few)
-
-pub overflow_add-at : goal.overflow_add-at
-overflow_add-at c = omega (arith, c.place_from-end.ensures.1)
-
-pub loop-at-smaller : goal.loop-at-smaller
-loop-at-smaller c = omega (arith, c.place_from-end.ensures.0)
-
-pub loop-at-preserved : goal.loop-at-preserved
-loop-at-preserved c =
-    judges_more _ _ _ _ _ c.loop-at.invariant _ c.place_from-end.ensures.0 c.loop-at-test.true c.if-text-end.false _
-    c.check-checked.ensures _ c.in-Right.is
+pub loop-passed-preserved : goal.loop-passed-preserved
+loop-passed-preserved c =
+    let y = YieldsList-from_enumerate (YieldsList-from_split_inclusive _ c.args.text.now (cc) (cc) (λ x b q k. search (rules, tests))) (cc) in
+    let t = YieldsList-turn y c.loop-passed.yielded _ c.loop-passed.yielded_by _ _ (c.in-Some.passed, c.in-Some.line) c.in-Some.is c.next.ensures.steps in
+    let m = numbered _ _ _ _ t in
+    let w = judges_more _ _ _ _ c.loop-passed.invariant _ (m.0, m.2) _ c.check_ended.ensures in
+    let e = c.in_ok-free.ensures.cases in
+    let v = c.in_ok-free.ensures.variant in
+    grind (arith, common_steps, w, length_push c.loop-passed.yielded (c.in-Some.passed, c.in-Some.line))
 
 pub returns : goal.returns
-returns c = judges_all _ _ _ _ _ c.loop-at.invariant c.loop-at-test.false
+returns c =
+    let y = YieldsList-from_enumerate (YieldsList-from_split_inclusive _ c.args.text.now (cc) (cc) (λ x b q k. search (rules, tests))) (cc) in
+    let t = YieldsList-end y c.loop-passed.yielded _ c.loop-passed.yielded_by _ _ c.in-None.is c.next.ensures.steps in
+    judges_all _ _ _ _ c.loop-passed.invariant (omega (arith, t.1, length-enumerate_from 0 (lines c.args.text.now)))
+
+pub loop-passed-init : goal.loop-passed-init
+loop-passed-init c = judges_none _ _

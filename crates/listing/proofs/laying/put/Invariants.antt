@@ -1,10 +1,10 @@
-use Prim.Native.Nat.{◌-◌, ◌/◌}
-use lib.ListN.{length}
+use Rattle.std.proofs.Common.{◌≡◌}
+use Rattle.std.specs.Slice.Iter.{chunks_exact_rest, chunks_exact_size}
+use Rattle.std.specs.Iterator.Adapters.{enumerate_source, enumerate_count}
 use Rattle.listing.proofs.Bytes.{Puts}
 use Rattle.listing.proofs.laying.put.Given as goal
 
 abbrev pub invariant-loop-k : goal.invariant-loop-k
-invariant-loop-k l = Puts l.initial.memory l.at l.digits l.memory l.k
-
-abbrev pub decreases-loop-k : goal.decreases-loop-k
-decreases-loop-k l = length l.digits / 2 - l.k
+invariant-loop-k l =
+    (chunks_exact_size (enumerate_source l.k-iterator) ≡ 2)
+    × Puts l.initial.memory l.at l.digits l.memory (enumerate_count l.k-iterator) (chunks_exact_rest (enumerate_source l.k-iterator))

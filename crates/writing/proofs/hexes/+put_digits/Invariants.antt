@@ -1,4 +1,4 @@
--- The digits of the sixteenth stand in front, and the last digit behind them. The measure is how many sixteenths are left.
+-- The measure is how many sixteenths are left.
 use Rattle.writing.proofs.hexes.+put_digits.Given as goal
 
 abbrev pub decreases-put_digits : goal.decreases-put_digits

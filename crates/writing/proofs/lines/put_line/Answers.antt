@@ -1,16 +1,12 @@
-use Rattle.writing.proofs.Line.{pairs_place, line_put}
-use borrow.Author.Rules.{rules}
+use mathlib.Core.Path.{◌≡◌}
+use Prim.Native.Nat.{◌+◌, ◌-◌}
 use native.Mathlib.Omega.{arith}
+use Rattle.listing.specs.Grammar.{line}
+use Rattle.text.specs.Put.{put_both}
 use Rattle.writing.proofs.lines.put_line.Goals as goal
 
-pub put_note-feed-requires : goal.put_note-feed-requires
-put_note-feed-requires c =
-    (omega (arith, pairs_place c.args.memory.now c.args.address c.args.count c.requires.2 c.put_pairs-note.ensures), c.requires.3, c.requires.4)
-
-pub put_byte-requires : goal.put_byte-requires
-put_byte-requires c =
-    omega (arith, pairs_place c.args.memory.now c.args.address c.args.count c.requires.2 c.put_pairs-note.ensures)
-
 pub returns : goal.returns
+unfolding line
 returns c =
-    record { put = search (rules, line_put); upper_bound = omega (arith, pairs_place c.args.memory.now c.args.address c.args.count c.requires.2 c.put_pairs-note.ensures) }
+    let e : c.args.address + c.args.count - c.args.address ≡ c.args.count = omega arith in
+    put_both (put_both c.put_hex.ensures (put_both c.byte.ensures (put_both (rw e at c.put_pairs.ensures) c.put_note.ensures))) c.byte-2.ensures

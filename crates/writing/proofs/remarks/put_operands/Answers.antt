@@ -1,31 +1,39 @@
-use Rattle.writing.proofs.Notation.{no_operands, as_pair, as_immediate, as_store, as_load, as_target, as_single, as_nothing}
-use Rattle.text.specs.Bytes.{bytes}
-use borrow.Author.Rules.{rules}
 use native.Mathlib.Omega.{arith}
+use Rattle.text.specs.Bytes.{bytes}
+use Rattle.text.specs.Put.{put_nothing, put_both}
+use Rattle.writing.specs.Remark.{operands}
 use Rattle.writing.proofs.remarks.put_operands.Goals as goal
 
-pub returns-then-code-ge13 : goal.returns-then-code-ge13
-returns-then-code-ge13 c = record { put = search (rules, no_operands); upper_bound = omega arith }
+pub returns-in-Nothing : goal.returns-in-Nothing
+unfolding operands
+returns-in-Nothing c = rw (← c.operands_of.ensures, c.in-Nothing.is) (put_nothing _ (omega arith))
 
-pub returns-in-1 : goal.returns-in-1
-returns-in-1 c = record { put = search (rules, as_pair); upper_bound = omega arith }
+pub returns-in-Pair : goal.returns-in-Pair
+unfolding operands bytes
+returns-in-Pair c = rw (← c.operands_of.ensures, c.in-Pair.is) (put_both c.put_then_register.ensures c.put_then_register-in-Pair.ensures)
 
-pub returns-in-2 : goal.returns-in-2
-returns-in-2 c = record { put = search (rules, as_immediate); upper_bound = omega arith }
+pub returns-in-Immediate : goal.returns-in-Immediate
+unfolding operands bytes
+returns-in-Immediate c =
+    rw (← c.operands_of.ensures, c.in-Immediate.is) (put_both c.put_then_constant.ensures c.put_then_register-in-Immediate.ensures)
 
-pub returns-in-3 : goal.returns-in-3
-returns-in-3 c = record { put = search (rules, as_store); upper_bound = omega arith }
+pub returns-in-Store : goal.returns-in-Store
+unfolding operands bytes
+returns-in-Store c =
+    rw (← c.operands_of.ensures, c.in-Store.is)
+    (put_both c.put_then_register-in-Store.ensures
+    (put_both c.put_then_constant-in-Store.ensures (put_both c.put_then_register-in-Store-2.ensures c.byte.ensures)))
 
-pub returns-in-4 : goal.returns-in-4
-returns-in-4 c = record { put = search (rules, as_load); upper_bound = omega arith }
+pub returns-in-Load : goal.returns-in-Load
+unfolding operands bytes
+returns-in-Load c =
+    rw (← c.operands_of.ensures, c.in-Load.is)
+    (put_both c.put_then_constant-in-Load.ensures (put_both c.put_then_register-in-Load.ensures c.put_then_register-in-Load-2.ensures))
 
-pub returns-in-5 : goal.returns-in-5
-unfolding bytes
-returns-in-5 c = record { put = search (rules, as_target); upper_bound = omega arith }
+pub returns-in-Target : goal.returns-in-Target
+unfolding operands bytes
+returns-in-Target c = rw (← c.operands_of.ensures, c.in-Target.is) c.put_then_constant-in-Target.ensures
 
-pub returns-in-6 : goal.returns-in-6
-unfolding bytes
-returns-in-6 c = record { put = search (rules, as_single); upper_bound = omega arith }
-
-pub returns-in_default : goal.returns-in_default
-returns-in_default c = record { put = search (rules, as_nothing); upper_bound = omega arith }
+pub returns-in-Single : goal.returns-in-Single
+unfolding operands bytes
+returns-in-Single c = rw (← c.operands_of.ensures, c.in-Single.is) c.put_then_register-in-Single.ensures

@@ -1,7 +1,5 @@
 use Rattle.text.specs.Put.{put_both}
-use borrow.Author.Rules.{rules}
-use native.Mathlib.Omega.{arith}
 use Rattle.writing.proofs.remarks.put_then_register.Goals as goal
 
 pub returns : goal.returns
-returns c = record { put = search (rules, put_both); upper_bound = omega arith }
+returns c = put_both c.text.ensures c.put_register.ensures

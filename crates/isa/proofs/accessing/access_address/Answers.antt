@@ -1,9 +1,0 @@
-use Rattle.isa.proofs.Ways.{at_a, at_e}
-use borrow.Author.Rules.{rules}
-use Rattle.isa.proofs.accessing.access_address.Goals as goal
-
-pub returns-in-2 : goal.returns-in-2
-returns-in-2 c = search (rules, at_a)
-
-pub returns-in_default : goal.returns-in_default
-returns-in_default c = search (rules, at_e)

@@ -1,9 +1,0 @@
-use Rattle.isa.proofs.Ways.{a_bad, a_good}
-use borrow.Author.Rules.{rules}
-use Rattle.isa.proofs.decoding.source_a.Goals as goal
-
-pub returns-then-is_bad : goal.returns-then-is_bad
-returns-then-is_bad c = search (rules, a_bad)
-
-pub returns-else-is_bad : goal.returns-else-is_bad
-returns-else-is_bad c = search (rules, a_good)

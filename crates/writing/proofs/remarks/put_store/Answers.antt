@@ -1,9 +1,0 @@
-use Rattle.writing.proofs.Notation.{store_put}
-use Rattle.text.specs.Bytes.{bytes}
-use borrow.Author.Rules.{rules}
-use native.Mathlib.Omega.{arith}
-use Rattle.writing.proofs.remarks.put_store.Goals as goal
-
-pub returns : goal.returns
-unfolding bytes
-returns c = record { put = search (rules, store_put); upper_bound = omega arith }
