@@ -2,7 +2,8 @@
 use Rattle.std.specs.Prelude.{ℕ, zero, suc, ◌+◌, ◌-◌, ◌*◌, ◌^◌, false, List, [], ◌∷◌, ◌≡◌, refl, eqb, length, replicate}
 use Prim.Native.String.{String}
 use Rattle.machine.specs.Words.{number}
-use Rattle.replay_ends.specs.Ends.{Numbers, numbers as chosen, replay_refusal, edge_refusal, numbers_refused}
+use Rattle.replay_ends.specs.declared.settings.Numbers.{Numbers}
+use Rattle.replay_ends.specs.Ends.{numbers as chosen, replay_refusal, edge_refusal, numbers_refused}
 use Rattle.edge.specs.Edge.{Edge, edge, replayed_by, replayed, replayed_set}
 use Rattle.records.specs.Given.{image}
 use Rattle.records.specs.Looks.{Row, Look, answers, numbers, failing}

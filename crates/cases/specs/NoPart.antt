@@ -13,7 +13,8 @@ use Rattle.clocked.specs.Premise.{Premise}
 use Rattle.clocked.specs.PipeRuns.{PipeAnswer, pipe_answer, pipe_run_unlogged}
 use Rattle.account.specs.Statement.{Start, plain_from, piped_from}
 use Rattle.block.specs.Block.{words_in, with_words, codes_from}
-use Rattle.replay_ends.specs.Ends.{replay_refusal, result_words, Numbers, numbers_refused, settings_of, full_words}
+use Rattle.replay_ends.specs.declared.settings.Numbers.{Numbers}
+use Rattle.replay_ends.specs.Ends.{replay_refusal, result_words, numbers_refused, settings_of, full_words}
 use Rattle.edge.specs.Edge.{Edge, edge, edge_done, edge_run, replayed_by, replayed, replayed_set}
 use Rattle.report_lines.specs.Lines.{count_lines}
 use Rattle.report.specs.Report.{end_lines, report, image_refused, image_start, image_run, reported}

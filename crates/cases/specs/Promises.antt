@@ -10,7 +10,7 @@ use Rattle.peaks.specs.declared.Day.{Day}
 use Rattle.peaks.specs.declared.Refusal.{Refusal}
 use Rattle.peaks.specs.Day.{judged}
 use Rattle.edge.specs.Edge.{Edge, replayed, replayed_set}
-use Rattle.replay_ends.specs.Ends.{Numbers}
+use Rattle.replay_ends.specs.declared.settings.Numbers.{Numbers}
 use Rattle.day_edge.specs.Days.{DayAt, day_answer}
 use Rattle.encoding.specs.declared.Fields.{Fields}
 use Rattle.writing_edge.specs.Writings.{Written, encoded, listing_written}

@@ -16,7 +16,8 @@ use Rattle.clocked.specs.Prediction.{as_in_01}
 use Rattle.clocked.specs.Pipeline.{pipe_start}
 use Rattle.clocked.specs.PipeRuns.{pipe_started, PipeAnswer, pipe_answer, pipe_run_unlogged}
 use Rattle.block.specs.Block.{words_in, with_words, codes_from}
-use Rattle.replay_ends.specs.Ends.{Numbers, numbers_refused, settings_of, replay_refusal, result_words, full_words}
+use Rattle.replay_ends.specs.declared.settings.Numbers.{Numbers}
+use Rattle.replay_ends.specs.Ends.{numbers_refused, settings_of, replay_refusal, result_words, full_words}
 use Rattle.edge.specs.Edge.{Edge, edge, edge_done, edge_run, replayed_by, replayed, replayed_set}
 
 -- THE RUN

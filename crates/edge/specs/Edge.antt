@@ -7,7 +7,8 @@ use Rattle.clocked.specs.Prediction.{as_in_01}
 use Rattle.clocked.specs.Pipeline.{pipe_start}
 use Rattle.clocked.specs.PipeRuns.{PipeAnswer, pipe_run_unlogged}
 use Rattle.block.specs.Block.{words_in, with_words, codes_from}
-use Rattle.replay_ends.specs.Ends.{replay_refusal, result_words, Numbers, numbers_refused, settings_of, full_words}
+use Rattle.replay_ends.specs.declared.settings.Numbers.{Numbers}
+use Rattle.replay_ends.specs.Ends.{replay_refusal, result_words, numbers_refused, settings_of, full_words}
 
 -- the answer, and what the three lent slices hold
 pub record Edge : Type 0 where

@@ -5,6 +5,7 @@
 mod replaying;
 
 ghost use Rattle.std.specs.Prelude.{◌≡◌};
+ghost use Rattle.answers.specs.Numbers.{number_of};
 ghost use Rattle.day_edge.specs.Days.{day_at, day_answer};
 ghost use Rattle.listing_edge.specs.Listings.{listing_edge, listing_read};
 ghost use Rattle.encoding.specs.Encode.{fields};
@@ -13,13 +14,63 @@ ghost use Rattle.edge.specs.Edge.{edge, replayed, replayed_set};
 ghost use Rattle.replay_ends.specs.Ends.{numbers};
 
 use crate::replaying::replay;
+use answers::Refusal;
+use block::write_words;
 use encoding::Fields;
-use replay_ends::settings::{numbers_refused, settings_of};
+use replay_ends::settings::Numbers;
+use replay_ends::{Request, full_words, result_words};
 
 // The result blocks: five words, and all eleven.
 const RESULT_BYTES: usize = 40;
 
 const FULL_BYTES: usize = 88;
+
+// One pipelined run without logs from a fresh start, with document 01's settings, or why it is refused.
+fn replayed(
+    memory: &mut [u8],
+    registers: &mut [u8],
+    res: &mut [u8],
+    asked: Request,
+) -> Result<(), Refusal>
+    ensures { edge (number_of result) memory.new registers.new res.new
+        ≡ replayed memory.old registers.old res.old asked.start asked.codes asked.budget }
+{
+    replay_ends::let_in(
+        RESULT_BYTES,
+        Some(()),
+        memory.len(),
+        registers.len(),
+        res.len(),
+        asked,
+    )?;
+    let end = replay(pipe::as_in_01(), memory, registers, asked);
+    write_words(res, &result_words(end));
+    Ok(())
+}
+
+// The same with settings by their numbers, and all eleven result words.
+fn replayed_set(
+    memory: &mut [u8],
+    registers: &mut [u8],
+    res: &mut [u8],
+    asked: Request,
+    chosen: Numbers,
+) -> Result<(), Refusal>
+    ensures { edge (number_of result) memory.new registers.new res.new
+        ≡ replayed_set chosen memory.old registers.old res.old asked.start asked.codes asked.budget }
+{
+    let settings = replay_ends::let_in(
+        FULL_BYTES,
+        chosen.settings(memory.len()),
+        memory.len(),
+        registers.len(),
+        res.len(),
+        asked,
+    )?;
+    let end = replay(settings, memory, registers, asked);
+    write_words(res, &full_words(end));
+    Ok(())
+}
 
 // One pipelined run without logs from a fresh start.
 pub fn y86_replay(
@@ -33,22 +84,14 @@ pub fn y86_replay(
     ensures { edge result memory.new registers.new res.new
         ≡ replayed memory.old registers.old res.old start codes budget }
 {
-    let number = replay_ends::refusal(
-        RESULT_BYTES,
-        false,
-        memory.len(),
-        registers.len(),
-        res.len(),
+    let asked = Request {
         start,
         codes,
         budget,
-    );
-    if number != 0 {
-        return number;
-    }
-    let end = replay(pipe::as_in_01(), memory, registers, start, codes, budget);
-    replay_ends::write_result(res, end);
-    0
+    };
+    replayed(memory, registers, res, asked)
+        .err()
+        .map_or(0, u64::from)
 }
 
 // The same with settings by their numbers, and all eleven result words (#105, #106, #107, #113). Not exported yet: with a second caller in the archive the
@@ -69,24 +112,21 @@ pub fn replay_set(
     ensures { edge result memory.new registers.new res.new
         ≡ replayed_set (numbers rule late windowed first end) memory.old registers.old res.old start codes budget }
 {
-    let chosen = numbers_refused(rule, late, windowed, first, end, memory.len());
-    let number = replay_ends::refusal(
-        FULL_BYTES,
-        chosen,
-        memory.len(),
-        registers.len(),
-        res.len(),
+    let asked = Request {
         start,
         codes,
         budget,
-    );
-    if number != 0 {
-        return number;
-    }
-    let settings = settings_of(rule, late, windowed, first, end);
-    let last = replay(settings, memory, registers, start, codes, budget);
-    replay_ends::write_full(res, last);
-    0
+    };
+    let chosen = Numbers {
+        rule,
+        late,
+        windowed,
+        first,
+        end,
+    };
+    replayed_set(memory, registers, res, asked, chosen)
+        .err()
+        .map_or(0, u64::from)
 }
 
 // Memory becomes the image of the listing (#103).

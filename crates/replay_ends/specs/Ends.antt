@@ -5,7 +5,7 @@ use Rattle.machine.specs.Types.{no_window, within}
 use Rattle.clocked.specs.declared.Settings.{Settings}
 use Rattle.clocked.specs.declared.Pipeline.{Pipeline}
 use Rattle.machine.specs.Types.{status_number, fault_number, codes_number}
-pub use Rattle.replay_ends.specs.declared.settings.Numbers.{Numbers}
+use Rattle.replay_ends.specs.declared.settings.Numbers.{Numbers}
 use Rattle.machine.specs.Runs.{size_refused, budget_refused, window_refused, start_refused, lowest}
 use Rattle.clocked.specs.PipeRuns.{settings_refused, pipe_limit}
 

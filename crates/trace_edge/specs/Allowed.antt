@@ -1,11 +1,10 @@
 -- What holds where a check is not refused. Assumes nothing.
-use Rattle.std.specs.Prelude.{◌≡◌, Bool, false, not, ◌||◌, ℕ, ◌≤◌, eqb, ltb}
+use Rattle.std.specs.Prelude.{◌≡◌, Bool, false, not, ◌||◌, ℕ, eqb, ltb}
 use Rattle.std.proofs.Common.{sym, ◌∙◌}
-use borrow.Author.Tests.{eqb-true, not-false, ltb-false}
-use Rattle.machine.specs.Runs.{size_refused, window_refused, lowest}
+use borrow.Author.Tests.{eqb-true, not-false}
+use Rattle.machine.specs.Runs.{size_refused, lowest}
 use Rattle.laws.specs.Tests.{neither}
 use Rattle.answers.specs.Refusals.{failed}
-use Rattle.trace_edge.specs.Settings.{window_from, numbers_refused}
 use Rattle.trace_edge.specs.Checks.{check_refusal}
 
 pub record Allowed (image registers copy verdict : ℕ) (settings : Bool) : Type 0 where
@@ -31,13 +30,3 @@ allowed image registers copy verdict start codes settings n h z =
       room = eqb-true verdict 16 (not-false (eqb verdict 16) q4.1);
       ranged = (neither (ltb 7 codes) settings p5.0).1;
     }
-
--- and of the settings' numbers
-module _ (size rule late windowed first end : ℕ) (h : numbers_refused size rule late windowed first end ≡ false) where
-  pub rule_known : rule ≤ 2
-  unfolding numbers_refused
-  rule_known = ltb-false 2 rule (neither (ltb 2 rule) _ h).0
-
-  pub window_inside : window_refused (window_from windowed first end) size ≡ false
-  unfolding numbers_refused
-  window_inside = (neither (ltb 1 windowed) _ (neither (ltb 1 late) _ (neither (ltb 2 rule) _ h).1).1).1

@@ -7,7 +7,8 @@ use Rattle.clocked.specs.Prediction.{core_of}
 use Rattle.block.specs.Block.{words_in, with_words, codes_from}
 use Rattle.trace.specs.declared.Verdict.{Verdict}
 use Rattle.trace.specs.Verdict.{verdict}
-use Rattle.trace_edge.specs.Settings.{window_from, settings_from, numbers_refused}
+use Rattle.replay_ends.specs.declared.settings.Numbers.{Numbers}
+use Rattle.replay_ends.specs.Ends.{window_of, settings_of, numbers_refused}
 
 -- the answer, and what the two slices hold that may change: "The image is only read"
 pub record Check : Type 0 where
@@ -27,18 +28,17 @@ check_refusal image registers copy verdict start codes settings =
     ∷ (6, start_refused image start) ∷ [])
 
 -- "given the starting image and record"
-unfoldable pub start_of : (image registers : List ℕ) → (start codes windowed first end : ℕ) → Plain
-start_of image registers start codes windowed first end =
-    plain_of (plain_start (window_from windowed first end) (words_in 15 registers 0) (codes_from codes) start) (lent image)
+unfoldable pub start_of : (image registers : List ℕ) → (start codes : ℕ) → Numbers → Plain
+start_of image registers start codes chosen =
+    plain_of (plain_start (window_of chosen) (words_in 15 registers 0) (codes_from codes) start) (lent image)
 
 -- the verdict's two words, and the buffer, which "ends as the plain engine's memory after the lines found right"
 unfoldable pub check_done : Plain → Verdict → (verdict : List ℕ) → Check
 check_done s v b = check 0 (steps s v.right).memory.bytes (with_words (v.line ∷ v.kind ∷ []) b 0)
 
-unfoldable pub checked : (image registers trace copy verdict : List ℕ) → (start codes rule late windowed first end : ℕ) → Check
-checked image registers trace copy block start codes rule late windowed first end =
-    let n =
-    check_refusal (length image) (length registers) (length copy) (length block) start codes (numbers_refused (length image) rule late windowed first end) in
-    let s = start_of image registers start codes windowed first end in
-    let v = verdict (core_of (settings_from rule late windowed first end)) s trace in
+unfoldable pub checked : (image registers trace copy verdict : List ℕ) → (start codes : ℕ) → Numbers → Check
+checked image registers trace copy block start codes chosen =
+    let n = check_refusal (length image) (length registers) (length copy) (length block) start codes (numbers_refused chosen (length image)) in
+    let s = start_of image registers start codes chosen in
+    let v = verdict (core_of (settings_of chosen)) s trace in
     cond (eqb n 0) (check_done s v block) (check n copy block)

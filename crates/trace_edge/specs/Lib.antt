@@ -1,3 +1,2 @@
-pub mod Settings
 pub mod Checks
 pub mod Allowed

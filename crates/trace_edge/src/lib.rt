@@ -1,95 +1,90 @@
-// A trace checked at the edge: the settings' numbers, the refusals, and the verdict's words.
+// A trace checked at the edge: the refusals, and the verdict's words.
 
 #![tactic(auto)]
 
-ghost use Rattle.std.specs.Prelude.{◌≡◌, false, ◌≤◌, length};
-ghost use Rattle.trace_edge.specs.Settings.{window_from, settings_from, numbers_refused as numbers_refused_of};
+ghost use Rattle.std.specs.Prelude.{◌≡◌, IfOk, Some, is_none};
+ghost use Rattle.answers.specs.Numbers.{number_of};
+ghost use Rattle.replay_ends.specs.Ends.{numbers};
 ghost use Rattle.trace_edge.specs.Checks.{check, check_refusal, checked};
 
+use answers::{Refusal, record_of};
 use block::{read_registers, write_words};
-use clocked::Settings;
-use machine::{Codes, Window};
-
-const REGISTER_BYTES: usize = 120;
+use machine::Codes;
+use replay_ends::settings::Numbers;
+use replay_ends::{MOST_CODES, REGISTER_BYTES};
 
 const VERDICT_BYTES: usize = 16;
 
-const MOST_CODES: u64 = 7;
-
-const LAST_RULE: u64 = 2;
-
-// The window of its three numbers.
-fn window_from(windowed: u64, first: u64, end: u64) -> Window
-    ensures { result ≡ window_from windowed first end }
-{
-    if windowed == 1 {
-        Some((first, end))
-    } else {
-        None
-    }
-}
-
-// Settings that were not refused.
-fn settings_from(rule: u64, late: u64, windowed: u64, first: u64, end: u64) -> Settings
-    requires { rule ≤ 2 }
-    ensures { result ≡ settings_from rule late windowed first end }
-{
-    let window = window_from(windowed, first, end);
-    Settings {
-        rule: rule as u8,
-        late: late == 1,
-        window,
-    }
-}
-
-// A number out of its range.
-fn numbers_refused(size: usize, rule: u64, late: u64, windowed: u64, first: u64, end: u64) -> bool
-    ensures { result ≡ numbers_refused_of size rule late windowed first end }
-{
-    let window = window_from(windowed, first, end);
-    (LAST_RULE < rule) | ((1 < late) | ((1 < windowed) | answers::window_refused(window, size)))
-}
-
-// The lowest refusal that applies, or 0.
-fn check_refusal(
+// The lowest refusal that applies; else what is chosen, which is nothing where it is out of its range.
+#[tactic(auto, unfolding(crate::specs::Checks::check_refusal, machine::specs::Runs::lowest, answers::specs::Numbers::number_of, answers::specs::Numbers::refusal_number))]
+fn let_in<S: Drop>(
     image: usize,
     registers: usize,
     copy: usize,
     verdict: usize,
     start: u64,
     codes: u64,
-    settings: bool,
-) -> u64
-    ensures { result ≡ check_refusal image registers copy verdict start codes settings }
+    chosen: Option<S>,
+) -> Result<S, Refusal>
+    ensures number { number_of result ≡ check_refusal image registers copy verdict start codes (is_none chosen) }
+    ensures chosen { IfOk result (λ s. chosen ≡ Some s) }
 {
     if answers::size_refused(image) {
-        return 1;
+        return Err(Refusal::MemorySize);
     }
     if registers != REGISTER_BYTES {
-        return 2;
+        return Err(Refusal::RegisterBlock);
     }
     if (copy != image) | (verdict != VERDICT_BYTES) {
-        return 4;
+        return Err(Refusal::ShortBlock);
     }
-    if (MOST_CODES < codes) | settings {
-        return 5;
+    if MOST_CODES < codes {
+        return Err(Refusal::BadRecord);
     }
+    let settled = chosen.ok_or(Refusal::BadRecord)?;
     if answers::start_refused(image, start) {
-        return 6;
+        return Err(Refusal::StartOutside);
     }
-    0
+    Ok(settled)
 }
 
-// The image is only read: the engine runs in the copy.
-fn copy_over(image: &[u8], copy: &mut [u8])
-    requires { length copy.old ≡ length image.now }
-    ensures { copy.new ≡ image.now }
+// The trace checked with these settings, or why it is refused. The image is only read: the engine runs in the copy.
+fn checked(
+    image: &[u8],
+    registers: &[u8],
+    trace: &[u8],
+    copy: &mut [u8],
+    verdict: &mut [u8],
+    start: u64,
+    codes: u64,
+    chosen: Numbers,
+) -> Result<(), Refusal>
+    ensures { check (number_of result) copy.new verdict.new
+        ≡ checked image.now registers.now trace.now copy.old verdict.old start codes chosen }
 {
-    let mut k: usize = 0;
-    while k < image.len() {
-        copy[k] = image[k];
-        k += 1;
-    }
+    let size = image.len();
+    let settings = let_in(
+        size,
+        registers.len(),
+        copy.len(),
+        verdict.len(),
+        start,
+        codes,
+        chosen.settings(size),
+    )?;
+    let started = plain::start(
+        settings.window,
+        size,
+        read_registers(registers),
+        Codes::from(codes),
+        start,
+    );
+    copy.copy_from_slice(image);
+    let machine = record_of(started);
+    let found = checking::check(settings, machine, trace, copy);
+    let words = [found.line, found.kind];
+    write_words(verdict, &words);
+    Ok(())
 }
 
 // A station's trace, checked from a fresh start (#108).
@@ -108,35 +103,16 @@ pub fn check_trace(
     end: u64,
 ) -> u64
     ensures { check result copy.new verdict.new
-        ≡ checked image.now registers.now trace.now copy.old verdict.old start codes rule late windowed first end }
+        ≡ checked image.now registers.now trace.now copy.old verdict.old start codes (numbers rule late windowed first end) }
 {
-    let size = image.len();
-    let refused = numbers_refused(size, rule, late, windowed, first, end);
-    let number = check_refusal(
-        size,
-        registers.len(),
-        copy.len(),
-        verdict.len(),
-        start,
-        codes,
-        refused,
-    );
-    if number != 0 {
-        return number;
-    }
-    let settings = settings_from(rule, late, windowed, first, end);
-    let window = settings.window;
-    let started = plain::start(
-        window,
-        size,
-        read_registers(registers),
-        Codes::from(codes),
-        start,
-    );
-    let machine = answers::record_of(started);
-    copy_over(image, copy);
-    let found = checking::check(settings, machine, trace, copy);
-    let words = [found.line, found.kind];
-    write_words(verdict, &words);
-    0
+    let chosen = Numbers {
+        rule,
+        late,
+        windowed,
+        first,
+        end,
+    };
+    checked(image, registers, trace, copy, verdict, start, codes, chosen)
+        .err()
+        .map_or(0, u64::from)
 }

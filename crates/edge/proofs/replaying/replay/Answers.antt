@@ -15,4 +15,4 @@ returns c =
       | in-Err-run_unlogged w ↦ cc (w.end-is, w.in-Err-run_unlogged.is)
     ] in
     let ran = runs _ _ _ _ _ _ _ _ _ _ _ _ _ c.read_registers.ensures c.from.ensures c.start-started.ensures fresh c.run_unlogged.ensures end in
-    (ran.0, ran.1, c.write_registers.ensures)
+    (ran.0, ran.1, c.write_words.ensures)
