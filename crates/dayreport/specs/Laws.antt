@@ -9,7 +9,7 @@ use Rattle.peaks.specs.declared.Comparison.{Comparison}
 use Rattle.peaks.specs.declared.Comparison.TheVariants.{Below as below, At as at, Above as above, NotComparable as not_comparable}
 use Rattle.peaks.specs.declared.Raw.{Raw}
 use Rattle.peaks.specs.declared.Day.{Day}
-use Rattle.peaks.specs.Day.{mean_bits}
+use Rattle.peaks.specs.Mean.{mean_bits}
 use Rattle.report_lines.specs.Lines.{line, number_line, number_length}
 use Rattle.report.specs.Report.{image_refused, image_run}
 use Rattle.report.specs.Laws.{refused_by_size}

@@ -1,6 +1,6 @@
 use Prim.Native.Nat.{◌<◌, ◌^◌}
 use native.Mathlib.Omega.{arith}
-use Rattle.peaks.specs.Day.{mean_bits}
+use Rattle.peaks.specs.Mean.{mean_bits}
 use Rattle.text.specs.Bytes.{bytes}
 use Rattle.text.specs.Put.{put_both}
 use Rattle.dayreport.specs.Lines.{found_lines}
