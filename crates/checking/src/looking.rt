@@ -1,5 +1,5 @@
 // The next instruction as the plain engine will perform it, and the line that is due for it.
-ghost use Rattle.std.specs.Prelude.{◌≡◌, cond, ◌+◌, ◌≤◌, length, drop};
+ghost use Rattle.std.specs.Prelude.{◌≡◌, None, Some, cond, ◌+◌, ◌≤◌, length, drop};
 ghost use Rattle.machine.specs.Memory.{lent, value as value_of};
 ghost use Rattle.machine.specs.Stages.{new_registers};
 ghost use Rattle.machine.specs.Plain.{plain_of, executed};
@@ -54,17 +54,13 @@ pub fn charge_of(reason: Option<Reason>) -> u64
     }
 }
 
-// The place behind the line, where the text has it at this place, else the same place: no line is empty.
-pub fn passed(text: &[u8], at: usize, line: Line) -> usize
+// The place behind the line, where the text has it at this place.
+pub fn passed(text: &[u8], at: usize, line: Line) -> Option<usize>
     requires { at ≤ length text.now }
     ensures { result ≡ cond (begins_of (trace_line line.number line.address line.cycle line.target line.value) (drop at text.now))
-        (at + length (trace_line line.number line.address line.cycle line.target line.value)) at }
+        (Some (at + length (trace_line line.number line.address line.cycle line.target line.value))) None }
 {
     let mut buffer = [0u8; 88];
     let length = write_line(line, &mut buffer);
-    if begins(&buffer[..length], &text[at..]) {
-        at + length
-    } else {
-        at
-    }
+    begins(&buffer[..length], &text[at..]).then_some(at + length)
 }
