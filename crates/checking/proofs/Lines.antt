@@ -1,34 +1,29 @@
 -- One law for each way out of the functions that judge a line. Assumes nothing.
-use mathlib.Core.Path.{◌≡◌, refl, ap, sym, ◌∙◌}
-use mathlib.Core.Bool.{Bool, true, false, cond, ◌||◌}
+use mathlib.Core.Path.{◌≡◌, refl, ap, ◌∙◌}
+use mathlib.Core.Bool.{Bool, true, false, cond}
 use mathlib.Core.List.{List, []}
 use Prim.Native.Nat.{ℕ, ◌+◌, ◌<◌}
 use native.Mathlib.Omega.{arith}
-use lib.Dec.{leb}
 use lib.ListN.{length, drop}
-use borrow.Author.Tests.{le-ltb, leb-false}
+use borrow.Author.Tests.{le-ltb}
 use Rattle.machine.specs.declared.Accessed.{Accessed}
 use Rattle.machine.specs.declared.Executed.{Executed}
 use Rattle.machine.specs.declared.Machine.{Machine}
 use Rattle.machine.specs.Types.{no_window}
 use Rattle.clocked.specs.declared.Reason.{Reason}
-use Rattle.std.specs.Prelude.{Result, Ok, Err, Option, Some, None}
+use Rattle.std.specs.Prelude.{Option, Some, None}
 use Rattle.clocked.specs.Record.{last_kept}
-use Rattle.machine.specs.Types.{is_bad}
 use Rattle.machine.specs.Memory.{lent, through, value}
 use Rattle.machine.specs.Stages.{access, new_registers}
 use Rattle.machine.specs.Plain.{plain_of, executed, accessed, step, steps}
 use Rattle.machine.specs.Runs.{size_refused, window_refused, budget_refused, log_refused, lowest, plain_limit, plain_refusal, PlainAnswer, plain_answer, plain_done, plain_by, plain_step}
 use Rattle.clocked.specs.Prediction.{Core}
 use Rattle.clocked.specs.Charges.{amount, reason_from, retired_of}
-use Rattle.laws.specs.Tests.{neither}
 use Rattle.trace.specs.Line.{target_of, trace_line}
 use Rattle.trace.specs.Verdict.{begins}
-use Rattle.trace.specs.declared.Kind.{Kind}
-use Rattle.trace.specs.declared.Kind.TheVariants.{NotDue as not_due, Overwritten as overwritten}
 use Rattle.checking.specs.declared.Checking.{Checking}
-use Rattle.checking.specs.Stores.{store_by, written_by}
-use Rattle.checking.specs.State.{held, charged_next, line_due, DueLine, passed_on, Checked, no_line, written, differs, right}
+use Rattle.checking.specs.Stores.{store_by}
+use Rattle.checking.specs.State.{charged_next, line_due, DueLine, passed_on}
 
 -- THE LINE THAT IS DUE, and what the look for it gave
 module _ (g : Core) (trace m : List ℕ) (c : Checking) (x : Executed) (w : Accessed) (reason : Option Reason) (charge target v : ℕ) (p : Option ℕ)
@@ -105,27 +100,3 @@ pub passed_on_lem : (c : Checking) (m m' : List ℕ) (k : Machine) (n : ℕ) (x 
     (passed_on c (lent m) x w charged next)
 unfolding passed_on
 passed_on_lem c m m' k n x w charged next s few size window e a = rw ((stepped c.machine k m m' n few size window a).0, e)
-
--- ONE LINE
-pub fewer_so : (b : Bool) (n : ℕ) → b || leb 65536 n ≡ false → n < 65536
-fewer_so b n h = leb-false 65536 n (neither b (leb 65536 n) h).1
-
-module _ (g : Core) (trace m : List ℕ) (c : Checking) (r : Result Checking Kind) (b : Bool) (bad : b ≡ is_bad c.machine.status) where
-  pub behind_all : b || leb 65536 c.machine.count ≡ true → r ≡ Err not_due → Checked g trace c (lent m) r (lent m)
-  behind_all h e = no_line (ap (λ (x : Bool). x || leb 65536 c.machine.count) (sym bad) ∙ h) e refl
-
-  module _ (on : b || leb 65536 c.machine.count ≡ false) (t : Bool) (touched : t ≡ written_by c.machine.window c.stores (lent m) c.machine.address) where
-    goes : is_bad c.machine.status || leb 65536 c.machine.count ≡ false
-    goes = ap (λ (x : Bool). x || leb 65536 c.machine.count) (sym bad) ∙ on
-
-    pub into : t ≡ true → r ≡ Err overwritten → Checked g trace c (lent m) r (lent m)
-    into h e = written goes (sym touched ∙ h) e refl
-
-    pub other : t ≡ false → begins (line_due g c (lent m)) (drop c.at trace) ≡ false → r ≡ Err not_due → Checked g trace c (lent m) r (lent m)
-    other un h e = differs goes (sym touched ∙ un) h e refl
-
-    pub same : t ≡ false → (x : Executed) (w : Accessed) (charged next : ℕ) → DueLine g trace c (lent m) x w charged next → (m' : List ℕ) (after : Checking)
-        → r ≡ Ok after → after ≡ passed_on c (lent m) x w charged next → lent m' ≡ through no_window (step (held c (lent m))).memory
-        → Checked g trace c (lent m) r (lent m')
-    same un x w charged next due m' after o e f =
-        right goes (sym touched ∙ un) due.begins_it (o ∙ ap Ok (e ∙ rw (due.executed_is, due.accessed_is, due.charged_is, due.next_is))) f

@@ -15,22 +15,21 @@ use machine::{Accessed, Decoded, Executed, Machine, REGISTERS};
 use trace_lines::{Line, begins, write_line};
 
 // The next instruction after execution, before any of it is done.
+#[tactic(auto, unfolding(machine::specs::Plain::executed, machine::specs::Plain::decoded, machine::specs::Plain::fetched, machine::specs::Stages::decode))]
 pub fn executed_at(m: Machine, memory: &[u8]) -> Executed
     ensures { result ≡ executed (plain_of m (lent memory.now)) }
 {
-    let window = m.window;
-    let registers = m.registers;
-    let codes = m.codes;
-    let i = instruction_at(window, memory, m.address);
+    let i = instruction_at(m.window, memory, m.address);
     let x = Decoded {
         instruction: i,
-        a: value(&registers, source_a(i)),
-        b: value(&registers, source_b(i)),
+        a: value(&m.registers, source_a(i)),
+        b: value(&m.registers, source_b(i)),
     };
-    execute(x, codes)
+    execute(x, m.codes)
 }
 
 // A register's value once the instruction has written: its result first, and then the loaded word.
+#[tactic(auto, unfolding(machine::specs::Stages::new_registers))]
 pub fn value_after(registers: [u64; REGISTERS], w: Accessed, q: u8) -> u64
     ensures { result ≡ value_of (new_registers w registers) q }
 {
