@@ -2,17 +2,19 @@
 use mathlib.Core.Path.{◌≡◌, refl, ap, ◌∙◌, subst}
 use mathlib.Core.Bool.{false}
 use mathlib.Core.List.{List}
-use Prim.Native.Nat.{ℕ, ◌+◌, ◌-◌, ◌≤◌, ◌<◌}
+use Rattle.std.specs.Prelude.{Result, Ok, Err, Some}
+use Prim.Native.Nat.{ℕ, suc, ◌+◌, ◌-◌, ◌≤◌, ◌<◌}
 use native.Mathlib.Omega.{arith}
 use lib.ListN.{length}
 use Rattle.machine.specs.declared.Machine.{Machine}
 use Rattle.machine.specs.Memory.{lent}
 use Rattle.machine.specs.Runs.{size_refused, window_refused}
 use Rattle.clocked.specs.Prediction.{Core}
+use Rattle.trace.specs.declared.Kind.{Kind}
 use Rattle.trace.specs.Verdict.{accepted}
 use Rattle.checking.specs.declared.Checking.{Checking}
 use Rattle.checking.specs.State.{Open, Checked}
-use Rattle.checking.specs.Loop.{at_start, Fresh, size_most, Goes, goes_open, goes_window, goes_first, Ends, goes_end, goes_wrong, goes_on_lem, counted}
+use Rattle.checking.specs.Loop.{at_start, Fresh, size_most, Goes, goes_open, goes_window, goes_first, Ends, goes_end, goes_wrong, goes_on_lem}
 
 -- before each line: b₀ and b are the bytes of the copy, at first and now
 pub record Turn (g : Core) (k : Machine) (b₀ trace : List ℕ) (c : Checking) (b : List ℕ) : Type 0 where
@@ -41,18 +43,21 @@ module _ (g : Core) (k : Machine) (b₀ trace : List ℕ) (c : Checking) (b : Li
   pub ends : (machine : Machine) → k ≡ machine → length trace ≤ c.at → Ends g machine (lent b₀) trace (accepted c.machine.count) (lent b)
   ends machine e h = subst (λ (x : Machine). Ends g x (lent b₀) trace (accepted c.machine.count) (lent b)) e (goes_end g k (lent b₀) trace c (lent b) t.goes h)
 
-  module _ (more : c.at < length trace) (r : Checking) (b' : List ℕ) (checked : Checked g trace c (lent b) r (lent b')) where
-    pub turns : length b' ≡ length b → r.kind ≡ 0 → Turn g k b₀ trace r b'
-    turns l z = record { goes = (goes_on_lem g k (lent b₀) trace c r (lent b) (lent b') t.goes more checked z).0; long = l ∙ t.long; fresh = t.fresh }
+  module _ (more : c.at < length trace) (r : Result Checking Kind) (b' : List ℕ) (checked : Checked g trace c (lent b) r (lent b')) where
+    module _ (next : Checking) (z : r ≡ Ok next) where
+      goes_on : Goes g k (lent b₀) trace next (lent b') × (c.at < next.at)
+      goes_on = goes_on_lem g k (lent b₀) trace c r (lent b) (lent b') t.goes more next z checked
 
-    pub less : r.kind ≡ 0 → length trace - r.at < length trace - c.at
-    less z = omega (arith, (goes_on_lem g k (lent b₀) trace c r (lent b) (lent b') t.goes more checked z).1)
+      pub turns : length b' ≡ length b → Turn g k b₀ trace next b'
+      turns l = record { goes = goes_on.0; long = l ∙ t.long; fresh = t.fresh }
 
-    pub breaks_off : (machine : Machine) → k ≡ machine → (r.kind ≡ 0 → ⊥)
-        → Ends g machine (lent b₀) trace (record { line = r.machine.count + 1; kind = r.kind; right = r.machine.count }) (lent b')
-    breaks_off machine e z =
-        subst (λ (x : Machine). Ends g x (lent b₀) trace (record { line = r.machine.count + 1; kind = r.kind; right = r.machine.count }) (lent b')) e
-        (goes_wrong g k (lent b₀) trace c r (lent b) (lent b') t.goes more checked z)
+      pub less : length trace - next.at < length trace - c.at
+      less = omega (arith, goes_on.1)
 
-    pub counts : r.machine.count ≤ 65536
-    counts = counted g k (lent b₀) trace c r (lent b) (lent b') t.goes more checked
+    pub breaks_off : (kind : Kind) → r ≡ Err kind → (machine : Machine) → k ≡ machine
+        → Ends g machine (lent b₀) trace (record { line = c.machine.count + 1; kind = Some kind; right = c.machine.count }) (lent b')
+    breaks_off kind z machine e =
+        let one : suc c.machine.count ≡ c.machine.count + 1 = omega arith in
+        subst (λ (x : Machine). Ends g x (lent b₀) trace (record { line = c.machine.count + 1; kind = Some kind; right = c.machine.count }) (lent b')) e
+        (subst (λ (i : ℕ). Ends g k (lent b₀) trace (record { line = i; kind = Some kind; right = c.machine.count }) (lent b')) one
+        (goes_wrong g k (lent b₀) trace c r (lent b) (lent b') t.goes more kind z checked))

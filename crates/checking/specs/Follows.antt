@@ -1,6 +1,6 @@
 -- What the checker holds follows the plain history: it judges each line as the definition does.
 use Prim.Native.Nat.{ℕ, zero, suc, ◌+◌, ◌-◌}
-use Rattle.std.specs.Prelude.{Bool, cond, ◌&&◌, ◌||◌, ◌≡◌, leb}
+use Rattle.std.specs.Prelude.{None, Some, Bool, cond, ltb, ◌&&◌, ◌||◌, ◌≡◌, leb}
 use Rattle.std.proofs.Math.Bool.{true, false, not}
 use Rattle.std.proofs.Common.{true≢false, ◌∙◌, arith, le-leb, leb-true, leb-false}
 use mathlib.Core.List.{List}
@@ -82,13 +82,28 @@ unfolding is_set
 unset no_window h = refl
 unset (within (a, b)) h = absurd (true≢false h)
 
+-- what a store hits, where there is one
+hits_stored : (x : Executed) (m : Memory) (b end n : ℕ) → hits (store_by x m) b end n
+    ≡ ((stores x.instruction && inside m x.result) && (ltb x.result end && (ltb b (x.result + 8) && (ltb x.result n && ltb b n))))
+unfolding store_by hits
+hits_stored x m b end n = go (stores x.instruction && inside m x.result)
+  where
+    go : (d : Bool) → hits (cond d (Some x.result) None) b end n ≡ (d && (ltb x.result end && (ltb b (x.result + 8) && (ltb x.result n && ltb b n))))
+    go true = refl
+    go false = refl
+
 module _ (s t : Plain) (o : is_set t.memory.window ≡ false) where
   hits_touches : hits (store_of s) t.machine.address (t.machine.address + size_at t.memory t.machine.address) (size t.memory) ≡ touches s t
-  unfolding hits store_of store_by touches code_end seen_to stores access_address executed decoded execute decode
-  hits_touches = go (storing (row_of (fetched s).code).accesses) refl
+  unfolding store_of touches code_end seen_to stores access_address executed decoded execute decode
+  hits_touches =
+      hits_stored (executed s) s.memory t.machine.address (t.machine.address + size_at t.memory t.machine.address) (size t.memory)
+      ∙ go (storing (row_of (fetched s).code).accesses) refl
     where
       go : (b : Bool) → storing (row_of (fetched s).code).accesses ≡ b
-          → hits (store_of s) t.machine.address (t.machine.address + size_at t.memory t.machine.address) (size t.memory) ≡ touches s t
+          → ((stores (executed s).instruction && inside s.memory (executed s).result)
+          && (ltb (executed s).result (t.machine.address + size_at t.memory t.machine.address)
+          && (ltb t.machine.address ((executed s).result + 8) && (ltb (executed s).result (size t.memory) && ltb t.machine.address (size t.memory)))))
+          ≡ touches s t
       go true e = rw (unset t.memory.window o, e, stored_at (row_of (fetched s).code).accesses (executed s) e)
       go false e = rw e
 

@@ -1,19 +1,17 @@
 -- A check, line by line: what holds before each line, and what the verdict is where it ends.
 use Prim.Native.Nat.{ℕ, zero, suc, ◌+◌, ◌-◌, ◌*◌, ◌≤◌, ◌<◌}
-use Rattle.std.specs.Prelude.{Bool, ◌||◌, List, ◌≡◌, eqb, ltb, length, drop}
+use Rattle.std.specs.Prelude.{Result, Ok, Err, Bool, ◌||◌, List, ◌≡◌, eqb, ltb, length, drop}
 use Rattle.std.proofs.Math.Bool.{true, false}
 use Rattle.std.proofs.Common.{sym, ◌∙◌, subst, length-drop, length-append, drop-drop}
 use Rattle.std.proofs.Math.Path.{refl, ap}
 use native.Mathlib.Omega.{arith}
 use borrow.Author.Tests.{ltb-false, eq-eqb, ne_eqb, leb-true, leb-false}
 use Rattle.std.proofs.Math.Dec.{leb}
-use Rattle.machine.specs.declared.Accessed.{Accessed}
-use Rattle.machine.specs.declared.Executed.{Executed}
 use Rattle.machine.specs.declared.Machine.{Machine}
 use Rattle.machine.specs.Types.{no_window}
 use Rattle.machine.specs.Types.{is_bad}
 use Rattle.machine.specs.Memory.{Memory, through}
-use Rattle.machine.specs.Plain.{Plain, plain_of, is_stopped, steps}
+use Rattle.machine.specs.Plain.{Plain, plain_of, executed, accessed, is_stopped, steps}
 use Rattle.machine.specs.Runs.{size_refused, window_refused}
 use Rattle.clocked.specs.Prediction.{Core}
 use Rattle.clocked.specs.Charges.{charges, due}
@@ -23,18 +21,20 @@ use Rattle.laws.specs.Window.{steps_keep}
 use Rattle.account.specs.Statement.{kept_of}
 use Rattle.account.proofs.Timing.{due_most}
 use Rattle.trace.specs.Text.{plain_line}
+use Rattle.trace.specs.declared.Kind.{Kind}
+use Rattle.trace.specs.declared.Kind.TheVariants.{NotDue as not_due, Overwritten as overwritten}
 use Rattle.trace.specs.declared.Verdict.{Verdict}
 use Rattle.trace.specs.Verdict.{accepted, wrong_by, written_into, begins, judged, trace_limit, verdict}
 use Rattle.trace.proofs.Exact.{begins_only, line_some}
 use Rattle.checking.specs.declared.Checking.{Checking}
 use Rattle.checking.specs.Stores.{no_store, store_before, stores_before}
-use Rattle.checking.specs.State.{line_due, Open, faulty, passed_on, Checked, no_line, written, differs, right}
+use Rattle.checking.specs.State.{held, charged_next, line_due, Open, passed_on, Checked, no_line, written, differs, right}
 use Rattle.checking.specs.Follows.{Here, line_is, written_is, here_on}
 
 -- where a check starts
 unfoldable pub at_start : Machine → Checking
 at_start k =
-    record { machine = k; charged = 0; kept = none_kept; stores = record { first = no_store; second = no_store; third = no_store }; at = 0; kind = 0 }
+    record { machine = k; charged = 0; kept = none_kept; stores = record { first = no_store; second = no_store; third = no_store }; at = 0 }
 
 charges_most : (g : Core) (s : Plain) (n : ℕ) → charges g s n ≤ 3 * n
 unfolding charges due
@@ -52,7 +52,7 @@ module _ (g : Core) (s : Plain) (n : ℕ) (text : List ℕ) where
     not_none : eqb (length text) 0 ≡ false
     not_none = ne_eqb (length text) 0 (λ e. omega arith)
 
-    judged_behind : (left : ℕ) → left ≡ trace_limit - n → (is_stopped (steps s n) || leb trace_limit n) ≡ true → judged g s left n text ≡ wrong_by 1 n
+    judged_behind : (left : ℕ) → left ≡ trace_limit - n → (is_stopped (steps s n) || leb trace_limit n) ≡ true → judged g s left n text ≡ wrong_by not_due n
     unfolding judged
     judged_behind zero e h = rw not_none
     judged_behind (suc left) e h = rw (not_none, go (is_stopped (steps s n)) refl)
@@ -64,11 +64,11 @@ module _ (g : Core) (s : Plain) (n : ℕ) (text : List ℕ) where
             absurd (omega (arith, leb-true trace_limit n z))
 
     module _ (left : ℕ) (r : is_stopped (steps s n) ≡ false) where
-      judged_written : written_into s n ≡ true → judged g s (suc left) n text ≡ wrong_by 2 n
+      judged_written : written_into s n ≡ true → judged g s (suc left) n text ≡ wrong_by overwritten n
       unfolding judged
       judged_written h = rw (not_none, r, h)
 
-      judged_differs : written_into s n ≡ false → begins (plain_line g s n) text ≡ false → judged g s (suc left) n text ≡ wrong_by 1 n
+      judged_differs : written_into s n ≡ false → begins (plain_line g s n) text ≡ false → judged g s (suc left) n text ≡ wrong_by not_due n
       unfolding judged
       judged_differs h b = rw (not_none, r, h, b)
 
@@ -82,7 +82,6 @@ module _ (g : Core) (k : Machine) (m₀ : Memory) (trace : List ℕ) where
     pub here : Here g k m₀ c.machine.count c m
     pub place : c.at ≤ length trace
     pub few : c.machine.count ≤ 65536
-    pub right_so_far : c.kind ≡ 0
     pub left : judged g (plain_of k m₀) (trace_limit - c.machine.count) c.machine.count (drop c.at trace) ≡ verdict g (plain_of k m₀) trace
 
   pub goes_open : (c : Checking) (m : Memory) → Goes c m → Open c trace
@@ -103,7 +102,6 @@ module _ (g : Core) (k : Machine) (m₀ : Memory) (trace : List ℕ) where
         here = rw e (record { machine_is = refl; memory_is = w; count_is = refl; charged_is = refl; kept_is = refl; stores_are = refl });
         place = omega arith;
         few = omega arith;
-        right_so_far = refl;
         left = rw e;
       }
 
@@ -117,7 +115,7 @@ module _ (g : Core) (k : Machine) (m₀ : Memory) (trace : List ℕ) where
       (sym (judged_none g (plain_of k m₀) c.machine.count (drop c.at trace) (trace_limit - c.machine.count) none) ∙ h.left, h.here.memory_is)
 
   -- ONE LINE
-  module _ (c r : Checking) (m m' : Memory) (h : Goes c m) (more : c.at < length trace) where
+  module _ (c : Checking) (r : Result Checking Kind) (m m' : Memory) (h : Goes c m) (more : c.at < length trace) where
     abbrev n : ℕ
     n = c.machine.count
 
@@ -137,43 +135,28 @@ module _ (g : Core) (k : Machine) (m₀ : Memory) (trace : List ℕ) where
     below : is_bad c.machine.status || leb 65536 n ≡ false → trace_limit - n ≡ suc (trace_limit - suc n)
     below e = omega (arith, leb-false 65536 n (neither (is_bad c.machine.status) (leb 65536 n) e).1)
 
-    abbrev said : Verdict
-    said = record { line = r.machine.count + 1; kind = r.kind; right = r.machine.count }
+    wrong_line : (kind : Kind) → m' ≡ m → judged g (plain_of k m₀) (trace_limit - n) n text ≡ wrong_by kind n → Ends (wrong_by kind n) m'
+    wrong_line kind f j = (sym j ∙ h.left, f ∙ h.here.memory_is)
 
-    wrong_line : (kind : ℕ) → r ≡ faulty c kind → m' ≡ m → judged g (plain_of k m₀) (trace_limit - n) n text ≡ wrong_by kind n → Ends said m'
-    unfolding faulty
-    wrong_line kind e f j =
-        let count : r.machine.count ≡ n = ap (λ (x : Checking). x.machine.count) e in
-        let number : r.machine.count + 1 ≡ suc n = omega arith in
-        let kind_is : r.kind ≡ kind = ap (λ (x : Checking). x.kind) e in
-        let same : said ≡ wrong_by kind n = cc in
-        (same ∙ (sym j ∙ h.left), rw count (f ∙ h.here.memory_is))
-
-    no_kind : (kind : ℕ) → r ≡ faulty c (suc kind) → r.kind ≡ 0 → ⊥
-    unfolding faulty
-    no_kind kind e z = omega (arith, ap (λ (x : Checking). x.kind) e)
-
-    right_kind : (x : Executed) (w : Accessed) (charged next : ℕ) → r ≡ passed_on c m x w charged next → r.kind ≡ 0
-    unfolding passed_on
-    right_kind x w charged next e = ap (λ (y : Checking). y.kind) e
-
-    right_place : (x : Executed) (w : Accessed) (charged next : ℕ) → r ≡ passed_on c m x w charged next → r.at ≡ next
-    unfolding passed_on
-    right_place x w charged next e = ap (λ (y : Checking). y.at) e
-
-    pub goes_wrong : Checked g trace c m r m' → (r.kind ≡ 0 → ⊥) → Ends said m'
-    goes_wrong (no_line b e f) z =
-        wrong_line 1 e f (judged_behind g (plain_of k m₀) n text some (trace_limit - n) refl (ap (λ (x : Bool). x || leb 65536 n) (sym stopped_is) ∙ b))
-    goes_wrong (written b w e f) z =
-        wrong_line 2 e f
+    pub goes_wrong : (kind : Kind) → r ≡ Err kind → Checked g trace c m r m' → Ends (wrong_by kind n) m'
+    goes_wrong kind z (no_line b e f) =
+        let same : not_due ≡ kind = cc in
+        subst (λ (x : Kind). Ends (wrong_by x n) m') same
+        (wrong_line not_due f (judged_behind g (plain_of k m₀) n text some (trace_limit - n) refl (ap (λ (x : Bool). x || leb 65536 n) (sym stopped_is) ∙ b)))
+    goes_wrong kind z (written b w e f) =
+        let same : overwritten ≡ kind = cc in
+        subst (λ (x : Kind). Ends (wrong_by x n) m') same
+        (wrong_line overwritten f
         (ap (λ (x : ℕ). judged g (plain_of k m₀) x n text) (below b)
-        ∙ judged_written g (plain_of k m₀) n text some (trace_limit - suc n) (runs b) (sym (written_is g k m₀ n c m h.here (runs b)) ∙ w))
-    goes_wrong (differs b w d e f) z =
-        wrong_line 1 e f
+        ∙ judged_written g (plain_of k m₀) n text some (trace_limit - suc n) (runs b) (sym (written_is g k m₀ n c m h.here (runs b)) ∙ w)))
+    goes_wrong kind z (differs b w d e f) =
+        let same : not_due ≡ kind = cc in
+        subst (λ (x : Kind). Ends (wrong_by x n) m') same
+        (wrong_line not_due f
         (ap (λ (x : ℕ). judged g (plain_of k m₀) x n text) (below b)
         ∙ judged_differs g (plain_of k m₀) n text some (trace_limit - suc n) (runs b) (sym (written_is g k m₀ n c m h.here (runs b)) ∙ w)
-        (ap (λ (l : List ℕ). begins l text) (sym (line_is g k m₀ n c m h.here (runs b))) ∙ d))
-    goes_wrong (right b w d e f) z = absurd (z (right_kind _ _ _ _ e))
+        (ap (λ (l : List ℕ). begins l text) (sym (line_is g k m₀ n c m h.here (runs b))) ∙ d)))
+    goes_wrong kind z (right b w d e f) = absurd (cc)
 
     -- the place behind a right line
     module _ (b : is_bad c.machine.status || leb 65536 n ≡ false) (d : begins (line_due g c m) text ≡ true) where
@@ -196,40 +179,33 @@ module _ (g : Core) (k : Machine) (m₀ : Memory) (trace : List ℕ) where
       further : c.at < c.at + length (line_due g c m)
       further = omega (arith, ap length line_same, line_some g (plain_of k m₀) n)
 
-    pub goes_on_lem : Checked g trace c m r m' → r.kind ≡ 0 → Goes r m' × (c.at < r.at)
-    goes_on_lem (no_line b e f) z = absurd (no_kind 0 e z)
-    goes_on_lem (written b w e f) z = absurd (no_kind 1 e z)
-    goes_on_lem (differs b w d e f) z = absurd (no_kind 0 e z)
-    goes_on_lem (right b w d e f) z =
-        let next : Here g k m₀ (suc n) r m' = here_on g k m₀ n c m h.here (runs b) m' r _ e f in
-        let count : r.machine.count ≡ suc n = next.count_is in
-        let place : r.at ≡ c.at + length (line_due g c m) = right_place _ _ _ _ e in
+    pub goes_on_lem : (next : Checking) → r ≡ Ok next → Checked g trace c m r m' → Goes next m' × (c.at < next.at)
+    unfolding passed_on
+    goes_on_lem next z (no_line b e f) = absurd (cc)
+    goes_on_lem next z (written b w e f) = absurd (cc)
+    goes_on_lem next z (differs b w d e f) = absurd (cc)
+    goes_on_lem next z (right b w d e f) =
+        let made : next ≡ passed_on c m (executed (held c m)) (accessed (held c m)) (charged_next g c m) (c.at + length (line_due g c m)) = cc in
+        let on : Here g k m₀ (suc n) next m' = here_on g k m₀ n c m h.here (runs b) m' next _ made f in
+        let count : next.machine.count ≡ suc n = on.count_is in
+        let place : next.at ≡ c.at + length (line_due g c m) = ap (λ (y : Checking). y.at) made in
         let line : length (line_due g c m) ≡ length (plain_line g (plain_of k m₀) n) = ap length (line_same b d) in
         let right_one =
         judged_right g (plain_of k m₀) n text some (trace_limit - suc n) (runs b) (sym (written_is g k m₀ n c m h.here (runs b)) ∙ w) (begins_so b d) in
-        let sum : c.at + length (plain_line g (plain_of k m₀) n) ≡ r.at = omega arith in
-        let dropped : drop (length (plain_line g (plain_of k m₀) n)) text ≡ drop r.at trace =
+        let sum : c.at + length (plain_line g (plain_of k m₀) n) ≡ next.at = omega arith in
+        let dropped : drop (length (plain_line g (plain_of k m₀) n)) text ≡ drop next.at trace =
         drop-drop (length (plain_line g (plain_of k m₀) n)) c.at trace ∙ ap (λ (i : ℕ). drop i trace) sum in (
           record {
-            here = subst (λ (i : ℕ). Here g k m₀ i r m') (sym count) next;
+            here = subst (λ (i : ℕ). Here g k m₀ i next m') (sym count) on;
             place = omega (arith, behind_it b d);
             few = omega (arith, below b);
-            right_so_far = z;
             left =
-                ap (λ (i : ℕ). judged g (plain_of k m₀) (trace_limit - i) i (drop r.at trace)) count
+                ap (λ (i : ℕ). judged g (plain_of k m₀) (trace_limit - i) i (drop next.at trace)) count
                 ∙ (ap (judged g (plain_of k m₀) (trace_limit - suc n) (suc n)) (sym dropped)
                 ∙ (sym right_one ∙ (ap (λ (i : ℕ). judged g (plain_of k m₀) i n text) (sym (below b)) ∙ h.left)));
           },
           omega (arith, further b d),
         )
-
-    -- no line counts past the limit
-    pub counted : Checked g trace c m r m' → r.machine.count ≤ 65536
-    unfolding faulty
-    counted (no_line b e f) = omega (arith, ap (λ (x : Checking). x.machine.count) e, h.few)
-    counted (written b w e f) = omega (arith, ap (λ (x : Checking). x.machine.count) e, h.few)
-    counted (differs b w d e f) = omega (arith, ap (λ (x : Checking). x.machine.count) e, h.few)
-    counted (right b w d e f) = (goes_on_lem (right b w d e f) (right_kind _ _ _ _ e)).0.few
 
 -- what a check starts from is not refused: the size and the window stay so
 pub record Fresh (k : Machine) (bytes : List ℕ) : Type 0 where

@@ -1,5 +1,5 @@
 // The next instruction as the plain engine will perform it, and the line that is due for it.
-ghost use Rattle.std.specs.Prelude.{◌≡◌, cond, ◌+◌, ◌≤◌, length, drop};
+ghost use Rattle.std.specs.Prelude.{◌≡◌, None, Some, cond, ◌+◌, ◌≤◌, length, drop};
 ghost use Rattle.machine.specs.Memory.{lent, value as value_of};
 ghost use Rattle.machine.specs.Stages.{new_registers};
 ghost use Rattle.machine.specs.Plain.{plain_of, executed};
@@ -15,22 +15,21 @@ use machine::{Accessed, Decoded, Executed, Machine, REGISTERS};
 use trace_lines::{Line, begins, write_line};
 
 // The next instruction after execution, before any of it is done.
+#[tactic(auto, unfolding(machine::specs::Plain::executed, machine::specs::Plain::decoded, machine::specs::Plain::fetched, machine::specs::Stages::decode))]
 pub fn executed_at(m: Machine, memory: &[u8]) -> Executed
     ensures { result ≡ executed (plain_of m (lent memory.now)) }
 {
-    let window = m.window;
-    let registers = m.registers;
-    let codes = m.codes;
-    let i = instruction_at(window, memory, m.address);
+    let i = instruction_at(m.window, memory, m.address);
     let x = Decoded {
         instruction: i,
-        a: value(&registers, source_a(i)),
-        b: value(&registers, source_b(i)),
+        a: value(&m.registers, source_a(i)),
+        b: value(&m.registers, source_b(i)),
     };
-    execute(x, codes)
+    execute(x, m.codes)
 }
 
 // A register's value once the instruction has written: its result first, and then the loaded word.
+#[tactic(auto, unfolding(machine::specs::Stages::new_registers))]
 pub fn value_after(registers: [u64; REGISTERS], w: Accessed, q: u8) -> u64
     ensures { result ≡ value_of (new_registers w registers) q }
 {
@@ -54,17 +53,13 @@ pub fn charge_of(reason: Option<Reason>) -> u64
     }
 }
 
-// The place behind the line, where the text has it at this place, else the same place: no line is empty.
-pub fn passed(text: &[u8], at: usize, line: Line) -> usize
+// The place behind the line, where the text has it at this place.
+pub fn passed(text: &[u8], at: usize, line: Line) -> Option<usize>
     requires { at ≤ length text.now }
     ensures { result ≡ cond (begins_of (trace_line line.number line.address line.cycle line.target line.value) (drop at text.now))
-        (at + length (trace_line line.number line.address line.cycle line.target line.value)) at }
+        (Some (at + length (trace_line line.number line.address line.cycle line.target line.value))) None }
 {
     let mut buffer = [0u8; 88];
     let length = write_line(line, &mut buffer);
-    if begins(&buffer[..length], &text[at..]) {
-        at + length
-    } else {
-        at
-    }
+    begins(&buffer[..length], &text[at..]).then_some(at + length)
 }

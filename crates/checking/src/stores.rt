@@ -6,42 +6,36 @@ ghost use Rattle.checking.specs.Stores.{store_by, hits as hits_of, touched_by, w
 use lookup::{accesses_of, size_of};
 use machine::{Executed, Window};
 
-// Whether an instruction stored, and the address of the word.
-#[derive(Clone, Copy)]
-pub struct Store {
-    pub writes: bool,
-    pub at: u64,
-}
-
-// Those of the three instructions before, the last one first.
+// The addresses of the words that the three instructions before stored, the last one first.
 #[derive(Clone, Copy)]
 pub struct Stores {
-    pub first: Store,
-    pub second: Store,
-    pub third: Store,
+    pub first: Option<u64>,
+    pub second: Option<u64>,
+    pub third: Option<u64>,
 }
 
 // A store outside memory writes nothing.
-pub fn store_of(x: Executed, memory: &[u8]) -> Store
+#[tactic(auto, unfolding(crate::specs::Stores::store_by, machine::specs::Stages::stores))]
+pub fn store_of(x: Executed, memory: &[u8]) -> Option<u64>
     ensures { result ≡ store_by x (lent memory.now) }
 {
-    let i = x.instruction;
-    let stores = accesses_of(i.code).stores();
-    Store {
-        writes: stores & word::inside(memory, x.result),
-        at: x.result,
-    }
+    let stores = accesses_of(x.instruction.code).stores();
+    (stores & word::inside(memory, x.result)).then_some(x.result)
 }
 
 // A byte of the word stored is one from the address up to the end, below n.
-fn hits(store: Store, address: u64, end: u64, n: u64) -> bool
+#[tactic(auto, unfolding(crate::specs::Stores::hits))]
+fn hits(store: Option<u64>, address: u64, end: u64, n: u64) -> bool
     ensures { result ≡ hits_of store address end n }
 {
-    let at = store.at;
-    store.writes & ((at < end) & (word::reaches(at, address) & ((at < n) & (address < n))))
+    match store {
+        None => false,
+        Some(at) => (at < end) & (word::reaches(at, address) & ((at < n) & (address < n))),
+    }
 }
 
 // One of the three wrote a byte of the instruction at the address.
+#[tactic(auto, using(crate::proofs::Ways::outside), unfolding(crate::specs::Stores::touched_by, machine::specs::Fetch::size_at))]
 fn touched(stores: Stores, memory: &[u8], address: u64) -> bool
     requires { length memory.now ≤ 65536 }
     ensures { result ≡ touched_by stores (lent memory.now) address }
@@ -52,13 +46,12 @@ fn touched(stores: Stores, memory: &[u8], address: u64) -> bool
     }
     let at = address as usize;
     let end = address + size_of(memory[at] / 16) as u64;
-    let first = stores.first;
-    let second = stores.second;
-    let third = stores.third;
-    hits(first, address, end, n) | (hits(second, address, end, n) | hits(third, address, end, n))
+    hits(stores.first, address, end, n)
+        | (hits(stores.second, address, end, n) | hits(stores.third, address, end, n))
 }
 
 // With a window set it is not asked.
+#[tactic(auto, unfolding(crate::specs::Stores::written_by, machine::specs::Types::is_set))]
 pub fn written_into(window: Window, stores: Stores, memory: &[u8], address: u64) -> bool
     requires { length memory.now ≤ 65536 }
     ensures { result ≡ written_by window stores (lent memory.now) address }

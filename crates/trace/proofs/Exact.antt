@@ -1,6 +1,6 @@
 -- The checker accepts exactly the traces that, within the premise, are the first lines of the plain engine's run with its cycles.
 use Prim.Native.Nat.{ℕ, zero, suc, ◌+◌, ◌-◌, ◌≤◌, ◌<◌}
-use Rattle.std.specs.Prelude.{Bool, cond, not, ◌&&◌, ◌||◌, ◌↔◌, ◌≡◌}
+use Rattle.std.specs.Prelude.{Some, Bool, cond, not, ◌&&◌, ◌||◌, ◌↔◌, ◌≡◌}
 use Rattle.std.proofs.Math.Bool.{true, false, true≢false}
 use mathlib.Core.List.{List, [], ◌∷◌, ◌++◌, append-nil, append_assoc}
 use Rattle.std.proofs.Math.Path.{refl, ap, sym}
@@ -20,6 +20,8 @@ use Rattle.account.proofs.Timing.{up_to}
 use Rattle.text.specs.Decimal.{decimal_some}
 use Rattle.trace.specs.Line.{trace_line}
 use Rattle.trace.specs.Text.{plain_line, plain_text}
+use Rattle.trace.specs.declared.Kind.{Kind}
+use Rattle.trace.specs.declared.Kind.TheVariants.{NotDue as not_due, Overwritten as overwritten}
 use Rattle.trace.specs.Verdict.{Verdict, accepted, wrong_by, written_into, begins, judged, trace_limit, verdict}
 use Rattle.trace.specs.Exact.{Right, Says, Within, Wrong, all_right, behind_stop, beyond, differs, first_wrong, written}
 
@@ -132,16 +134,16 @@ module _ (g : Core) (s : Plain) where
     some [] h = absurd (true≢false h)
     some (x ∷ text) h = omega arith
 
-    wrong : (left n kind : ℕ) (text : List ℕ) → Far left n text → eqb (length text) 0 ≡ false → Wrong g s n text kind → Says g s trace (wrong_by kind n)
+    wrong : (left n : ℕ) (kind : Kind) (text : List ℕ) → Far left n text → eqb (length text) 0 ≡ false → Wrong g s n text kind → Says g s trace (wrong_by kind n)
     wrong left n kind text f h w = first_wrong n kind text f.within f.whole (some text h) w
 
     says : (left n : ℕ) (text : List ℕ) → Far left n text → Says g s trace (judged g s left n text)
     unfolding judged
     says zero n text f = go (eqb (length text) 0) refl
       where
-        go : (b : Bool) → eqb (length text) 0 ≡ b → Says g s trace (cond b (accepted n) (wrong_by 1 n))
+        go : (b : Bool) → eqb (length text) 0 ≡ b → Says g s trace (cond b (accepted n) (wrong_by not_due n))
         go true e = ended zero n text f e
-        go false e = wrong zero n 1 text f e (beyond (omega arith))
+        go false e = wrong zero n not_due text f e (beyond (omega arith))
     says (suc left) n text f =
         go (eqb (length text) 0) refl (is_stopped (steps s n)) refl (written_into s n) refl (begins (plain_line g s n) text) refl
         (λ r h b. says left (suc n) (drop (length (plain_line g s n)) text) (further left n text f r h b))
@@ -151,12 +153,12 @@ module _ (g : Core) (s : Plain) where
 
         go : (a : Bool) → eqb (length text) 0 ≡ a → (b : Bool) → is_stopped (steps s n) ≡ b → (c : Bool) → written_into s n ≡ c → (d : Bool) → begins (plain_line g s n) text ≡ d
             → (is_stopped (steps s n) ≡ false → written_into s n ≡ false → begins (plain_line g s n) text ≡ true → Says g s trace next)
-            → Says g s trace (cond a (accepted n) (cond b (wrong_by 1 n) (cond c (wrong_by 2 n) (cond d next (wrong_by 1 n)))))
+            → Says g s trace (cond a (accepted n) (cond b (wrong_by not_due n) (cond c (wrong_by overwritten n) (cond d next (wrong_by not_due n)))))
         go true e b f1 c f2 d f3 on = ended (suc left) n text f e
-        go false e true r c f2 d f3 on = wrong (suc left) n 1 text f e (behind_stop r)
-        go false e false r true h d f3 on = wrong (suc left) n 2 text f e (written (omega arith) r h)
+        go false e true r c f2 d f3 on = wrong (suc left) n not_due text f e (behind_stop r)
+        go false e false r true h d f3 on = wrong (suc left) n overwritten text f e (written (omega arith) r h)
         go false e false r false h true b on = on r h b
-        go false e false r false h false b on = wrong (suc left) n 1 text f e (differs r h b)
+        go false e false r false h false b on = wrong (suc left) n not_due text f e (differs r h b)
 
     -- SOUND: what the verdict says is so
     pub sound : Says g s trace (verdict g s trace)
@@ -199,7 +201,7 @@ module _ (g : Core) (s : Plain) where
       ∙ (ap (λ (m : ℕ). judged g s m 0 (lines_from 0 n ++ rest)) (sym y)
       ∙ (passes n (trace_limit - n) 0 rest within ∙ ap (λ (m : ℕ). judged g s (trace_limit - n) m rest) z))
 
-  faulty : (left n kind : ℕ) (rest : List ℕ) → left ≡ trace_limit - n → 0 < length rest → Wrong g s n rest kind → judged g s left n rest ≡ wrong_by kind n
+  faulty : (left n : ℕ) (kind : Kind) (rest : List ℕ) → left ≡ trace_limit - n → 0 < length rest → Wrong g s n rest kind → judged g s left n rest ≡ wrong_by kind n
   unfolding judged
   faulty zero n kind rest z l (beyond h) = rw (not_none rest l)
   faulty (suc left) n kind rest z l (beyond h) = absurd (omega arith)
@@ -231,16 +233,16 @@ module _ (g : Core) (s : Plain) where
       by v h (first_wrong n kind rest w e l f) = absurd (omega arith)
 
   -- "With a window set" no line is wrong by the kind of its own
-  pub windowed_never : is_set s.memory.window ≡ true → (trace : List ℕ) → (verdict g s trace).kind ≡ 2 → ⊥
+  pub windowed_never : is_set s.memory.window ≡ true → (trace : List ℕ) → (verdict g s trace).kind ≡ Some overwritten → ⊥
   unfolding written_into
   windowed_never w trace h = by (verdict g s trace) h (sound trace)
     where
-      one : (n kind : ℕ) (rest : List ℕ) → kind ≡ 2 → Wrong g s n rest kind → ⊥
-      one n kind rest e (beyond q) = omega arith
-      one n kind rest e (behind_stop r) = omega arith
+      one : (n : ℕ) (kind : Kind) (rest : List ℕ) → kind ≡ overwritten → Wrong g s n rest kind → ⊥
+      one n kind rest e (beyond q) = cc
+      one n kind rest e (behind_stop r) = cc
       one n kind rest e (written q r f) = true≢false (sym f ∙ rw w)
-      one n kind rest e (differs r f b) = omega arith
+      one n kind rest e (differs r f b) = cc
 
-      by : (v : Verdict) → v.kind ≡ 2 → Says g s trace v → ⊥
-      by v e (all_right n r) = omega arith
-      by v e (first_wrong n kind rest u q l f) = one n kind rest e f
+      by : (v : Verdict) → v.kind ≡ Some overwritten → Says g s trace v → ⊥
+      by v e (all_right n r) = cc
+      by v e (first_wrong n kind rest u q l f) = one n kind rest (cc) f

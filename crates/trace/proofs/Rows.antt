@@ -14,7 +14,7 @@ use Rattle.report_lines.specs.Lines.{line}
 use Rattle.register_lines.specs.Registers.{register_names, register_name}
 use Rattle.trace.specs.Line.{target_of, target_text, trace_line}
 use Rattle.trace.specs.Text.{plain_line, line_in, line_now, pipe_text}
-use Rattle.trace.specs.Verdict.{written_into, begins, judged, verdict}
+use Rattle.trace.specs.Verdict.{written_into, kind_number, begins, judged, verdict}
 
 -- registers 0, codes ZF=1, start 0, rule 0, store data not late
 from : Window → List ℕ → Start
@@ -29,10 +29,10 @@ from w image =
 
 -- the verdict on a trace, as its three numbers
 pub judged_as : Window → List ℕ → String → List ℕ
-unfolding from computing plain_from touches clear all bytes digits decimal line register_names register_name target_of target_text trace_line plain_line written_into begins judged verdict
+unfolding from computing plain_from touches clear all bytes digits decimal line register_names register_name target_of target_text trace_line plain_line written_into kind_number begins judged verdict
 judged_as w image t =
     let v = verdict (core_of (from w image).settings) (plain_from (from w image)) (bytes t) in
-    v.line ∷ v.kind ∷ v.right ∷ []
+    v.line ∷ kind_number v.kind ∷ v.right ∷ []
 
 -- the trace that the pipeline writes in so many clocks
 pub trace_of : Window → List ℕ → ℕ → List ℕ

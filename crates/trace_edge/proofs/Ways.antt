@@ -1,7 +1,7 @@
 -- One law for each way out of a function, over variables for what its callees gave. Assumes nothing.
 use mathlib.Core.Path.{◌≡◌, refl, ap, sym, ◌∙◌}
 use mathlib.Core.Bool.{cond}
-use Rattle.std.specs.Prelude.{Option, None, Some, is_none}
+use Rattle.std.specs.Prelude.{Option, None, Some, is_none, MatchOption}
 use mathlib.Core.List.{List, [], ◌∷◌}
 use Prim.Native.Nat.{ℕ}
 use borrow.Author.Tests.{ne_eqb}
@@ -15,8 +15,9 @@ use Rattle.machine.specs.Plain.{Plain, plain_of, plain_start, steps}
 use Rattle.machine.specs.Runs.{plain_started}
 use Rattle.clocked.specs.Prediction.{core_of}
 use Rattle.block.specs.Block.{words_in, with_words, codes_from}
+use Rattle.trace.specs.declared.Kind.{Kind}
 use Rattle.trace.specs.declared.Verdict.{Verdict}
-use Rattle.trace.specs.Verdict.{verdict}
+use Rattle.trace.specs.Verdict.{kind_number, verdict}
 use Rattle.checking.specs.Loop.{Fresh}
 use Rattle.replay_ends.specs.declared.settings.Numbers.{Numbers}
 use Rattle.replay_ends.specs.Ends.{window_of, settings_of, numbers_refused}
@@ -56,11 +57,11 @@ module _ (image registers trace copy block : List ℕ) (start codes : ℕ) (chos
           rw (e, machine_is)
           (record { none_performed = refl; size_fits = lets.size; window_fits = (in_range chosen (length image) (sym tested ∙ lets.ranged)).window })
 
-      pub done : (bytes copy' block' : List ℕ) (v : Verdict) → bytes ≡ image
+      pub done : (bytes copy' block' : List ℕ) (v : Verdict) (n' : ℕ) → bytes ≡ image
           → (v ≡ verdict (core_of settings) (plain_of k (lent bytes)) trace) × (lent copy' ≡ through no_window (steps (plain_of k (lent bytes)) v.right).memory)
-          → block' ≡ with_words (v.line ∷ v.kind ∷ []) block 0 → check 0 copy' block' ≡ checked image registers trace copy block start codes chosen
+          → n' ≡ kind_number v.kind → block' ≡ with_words (v.line ∷ n' ∷ []) block 0 → check 0 copy' block' ≡ checked image registers trace copy block start codes chosen
       unfolding checked check_done start_of
-      done bytes copy' block' v e p f =
+      done bytes copy' block' v n' e p q f =
           let start_is : plain_of k (lent bytes) ≡ plain_of (plain_start (window_of chosen) (words_in 15 registers 0) (codes_from codes) start) (lent image) = rw (e, machine_is) in
           let v_is : v ≡ verdict (core_of (settings_of chosen)) (start_of image registers start codes chosen) trace = p.0 ∙ ends start_is in
           let copy_is : copy' ≡ (steps (start_of image registers start codes chosen) v.right).memory.bytes = ap (λ (x : Memory). x.bytes) p.1 ∙ ap (λ (x : Plain). (steps x v.right).memory.bytes) start_is in
@@ -69,3 +70,9 @@ module _ (image registers trace copy block : List ℕ) (start codes : ℕ) (chos
         where
           ends : {s t : Plain} → s ≡ t → verdict (core_of settings) s trace ≡ verdict (core_of (settings_of chosen)) t trace
           ends {s} {t} q = ap (λ (x : Settings). verdict (core_of x) s trace) which ∙ ap (λ (x : Plain). verdict (core_of (settings_of chosen)) x trace) q
+
+-- THE KIND'S NUMBER: none is 0
+pub kind_mapped : (k : Option Kind) (n : ℕ) → MatchOption k (n ≡ 0) (λ x. n ≡ kind_number (Some x)) → n ≡ kind_number k
+unfolding kind_number
+kind_mapped None n h = h
+kind_mapped (Some x) n h = h

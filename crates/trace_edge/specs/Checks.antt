@@ -6,7 +6,7 @@ use Rattle.machine.specs.Runs.{size_refused, start_refused, lowest}
 use Rattle.clocked.specs.Prediction.{core_of}
 use Rattle.block.specs.Block.{words_in, with_words, codes_from}
 use Rattle.trace.specs.declared.Verdict.{Verdict}
-use Rattle.trace.specs.Verdict.{verdict}
+use Rattle.trace.specs.Verdict.{kind_number, verdict}
 use Rattle.replay_ends.specs.declared.settings.Numbers.{Numbers}
 use Rattle.replay_ends.specs.Ends.{window_of, settings_of, numbers_refused}
 
@@ -34,7 +34,7 @@ start_of image registers start codes chosen =
 
 -- the verdict's two words, and the buffer, which "ends as the plain engine's memory after the lines found right"
 unfoldable pub check_done : Plain → Verdict → (verdict : List ℕ) → Check
-check_done s v b = check 0 (steps s v.right).memory.bytes (with_words (v.line ∷ v.kind ∷ []) b 0)
+check_done s v b = check 0 (steps s v.right).memory.bytes (with_words (v.line ∷ kind_number v.kind ∷ []) b 0)
 
 unfoldable pub checked : (image registers trace copy verdict : List ℕ) → (start codes : ℕ) → Numbers → Check
 checked image registers trace copy block start codes chosen =

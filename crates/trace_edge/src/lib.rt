@@ -82,7 +82,7 @@ fn checked(
     copy.copy_from_slice(image);
     let machine = record_of(started);
     let found = checking::check(settings, machine, trace, copy);
-    let words = [found.line, found.kind];
+    let words = [found.line, found.kind.map_or(0, u64::from)];
     write_words(verdict, &words);
     Ok(())
 }

@@ -3,8 +3,8 @@ use Rattle.answers.specs.Numbers.{not_refused}
 use Rattle.clocked.specs.Charges.{retired_of}
 use Rattle.checking.proofs.pass.Goals as goal
 
-pub unwrap-after-requires : goal.unwrap-after-requires
-unwrap-after-requires c =
+pub unwrap-machine-requires : goal.unwrap-machine-requires
+unwrap-machine-requires c =
     not_refused _ (made _ _ _ _ _ c.requires.0 c.requires.1 c.requires.2 c.step.ensures)
 
 pub returns : goal.returns
@@ -13,7 +13,7 @@ returns c =
     let few = c.requires.0 in
     let size = c.requires.1 in
     let window = c.requires.2 in
-    let step = rw c.unwrap-after.ensures at c.step.ensures in (
-      passed_on_lem c.args.c _ _ _ _ c.args.due.x c.args.due.w _ _ _ few size window c.store_of-store.ensures step,
+    let step = rw c.unwrap-machine.ensures at c.step.ensures in (
+      passed_on_lem c.args.c _ _ _ _ c.args.due.x c.args.due.w _ _ _ few size window c.store_of.ensures step,
       (stepped _ _ _ _ _ few size window step).1,
     )

@@ -1,6 +1,6 @@
 use Rattle.answers.specs.Numbers.{numbered}
 use Rattle.replay_ends.specs.Allowed.{handed}
-use Rattle.trace_edge.proofs.Ways.{refuses, lets, fresh, done}
+use Rattle.trace_edge.proofs.Ways.{refuses, lets, fresh, done, kind_mapped}
 use mathlib.Core.Path.{refl}
 use native.Mathlib.Omega.{arith}
 use Rattle.trace_edge.proofs.checked.Goals as goal
@@ -26,4 +26,5 @@ write_words-requires c =
 
 pub returns : goal.returns
 returns c =
-    done c.args.image.now c.args.registers.now c.args.trace.now c.args.copy.now c.args.verdict.now _ _ _ _ c.settings.ensures _ c.in_ok-settings.ensures.number refl _ _ _ _ _ c.in_ok-settings.ensures.chosen c.read_registers.ensures c.from.ensures (rw (← c.record_of-machine.ensures) at c.start-started.ensures) _ _ _ _ c.copy_from_slice.ensures.after c.check-found.ensures c.write_words.ensures
+    done c.args.image.now c.args.registers.now c.args.trace.now c.args.copy.now c.args.verdict.now _ _ _ _ c.settings.ensures _ c.in_ok-settings.ensures.number refl _ _ _ _ _ c.in_ok-settings.ensures.chosen c.read_registers.ensures c.from.ensures (rw (← c.record_of-machine.ensures) at c.start-started.ensures) _ _ _ _ _ c.copy_from_slice.ensures.after c.check-found.ensures
+    (kind_mapped _ _ c.map_or.ensures) c.write_words.ensures
