@@ -42,8 +42,8 @@ fn report_request(request: Request, image: &mut [u8], out: &mut [u8; 144]) -> us
     if report::image_refused(image.len()) {
         return write_refusal(5, out);
     }
-    // "replays it as the first program does"
-    report::run_image(image);
+    // "replays it as the first program does": the day is read from the memory that this leaves
+    let _ = report::run_image(image);
     write_answer(
         peaks::judge(image, request.table, request.length, request.filed),
         out,

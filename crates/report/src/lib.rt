@@ -32,10 +32,7 @@ fn put_end(buffer: &mut [u8], at: usize, end: Pipeline) -> usize
 }
 
 // No report is longer than 652 bytes, so that it always fits.
-pub fn write_report(
-    answer: Result<Pipeline, Refused<Pipeline>>,
-    out: &mut [u8; 652],
-) -> usize
+pub fn write_report(answer: Result<Pipeline, Refused<Pipeline>>, out: &mut [u8; 652]) -> usize
     ensures { ◌≡◌ {A = ℕ × List ℕ} (result, out.new) (written (report (number_in answer) (record_in answer)) out.old) }
 {
     let first = put_text(out, 0, b"y86run\t1\n");

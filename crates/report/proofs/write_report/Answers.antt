@@ -1,6 +1,5 @@
 use Rattle.report.proofs.Ways.{answered, refused}
 use borrow.Author.Rules.{rules}
-use mathlib.Core.Path.{◌≡◌}
 use Rattle.text.specs.Bytes.{bytes}
 use native.Mathlib.Omega.{arith}
 use Rattle.report.proofs.write_report.Goals as goal
