@@ -50,7 +50,12 @@ fn plain_step(machine: Machine, memory: &mut [u8]) -> Result<Machine, Refused<Ma
     plain::step(machine, memory)
 }
 
-fn plain_run(machine: Machine, memory: &mut [u8], budget: u64, log: &mut [u64]) -> Result<Machine, Refused<Machine>>
+fn plain_run(
+    machine: Machine,
+    memory: &mut [u8],
+    budget: u64,
+    log: &mut [u64],
+) -> Result<Machine, Refused<Machine>>
     ensures { Fits plain_run_operation (machine, lent memory.old, budget, log.old)
         (plain_answer (number_in result) (record_in result) (lent memory.new) log.new) }
 {
@@ -88,7 +93,11 @@ fn pipe_run(
     pipe::run(pipeline, memory, budget, addresses, cycles)
 }
 
-fn pipe_run_unlogged(pipeline: Pipeline, memory: &mut [u8], budget: u64) -> Result<Pipeline, Refused<Pipeline>>
+fn pipe_run_unlogged(
+    pipeline: Pipeline,
+    memory: &mut [u8],
+    budget: u64,
+) -> Result<Pipeline, Refused<Pipeline>>
     ensures { Fits pipe_run_unlogged_operation (pipeline, lent memory.old, budget)
         (pipe_answer (number_in result) (record_in result) (lent memory.new) [] []) }
 {

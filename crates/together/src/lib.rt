@@ -74,7 +74,8 @@ pub fn run_both(
         (both_answer (plain_answer (number_in result.plain) (record_in result.plain) (lent memory.new) log.new)
         (pipe_answer (number_in result.pipe) (record_in result.pipe) (lent copy.new) addresses.new cycles.new)) }
 {
-    let plain = run_plain(settings.window, registers, codes, address, memory, budget, log);
+    let window = settings.window;
+    let plain = run_plain(window, registers, codes, address, memory, budget, log);
     let pipe = run_pipe(
         settings, registers, codes, address, copy, clocked, addresses, cycles,
     );
