@@ -66,13 +66,6 @@ pub fn number_of<R: Copy>(answer: Result<R, Refused<R>>) -> u64
     }
 }
 
-// The same of an answer that gives back nothing.
-pub fn number(answer: Result<(), Refusal>) -> u64
-    ensures { result ≡ number_of answer }
-{
-    answer.map_or_else(u64::from, |()| 0)
-}
-
 // Refusal 1: no memory, or more than 65,536 bytes.
 #[tactic(auto, unfolding(machine::specs::Runs::size_refused))]
 pub fn size_refused(size: usize) -> bool

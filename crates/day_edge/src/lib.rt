@@ -28,7 +28,7 @@ fn day_words(day: Day) -> [u64; 7]
     }
 }
 
-// The day of the table at an address in a final memory, and the peak filed at another.
+// The day of the table at an address in a final memory, and the peak filed at another. The answer is a number, as the C interface has it.
 #[tactic(auto, unfolding(crate::specs::Days::day_answer, crate::specs::Days::answered))]
 pub fn judge_day(memory: &[u8], res: &mut [u8], table: u64, length: u64, filed: u64) -> u64
     ensures { day_at result res.new ≡ day_answer memory.now res.old table length filed }

@@ -1,4 +1,5 @@
-// The host edge: functions on byte slices and numbers, which edge_c exports.
+// The host edge: functions on byte slices and numbers, which edge_c exports. They answer a number, and take what a C caller can give, since that is the C
+// interface; inside, refusals are Results.
 
 #![tactic(auto)]
 

@@ -1,4 +1,5 @@
-// The host edge's functions under their C names: the static library that C and Rust callers link. Each is one call of edge's.
+// The host edge's functions under their C names: the static library that C and Rust callers link. Each is one call of edge's,
+// since the C interface wants each by its name.
 
 #![tactic(auto)]
 

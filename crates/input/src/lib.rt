@@ -27,6 +27,7 @@ pub fn read_input<R: Read>(reader: &mut R, buffer: &mut [u8]) -> io::Result<usiz
     ensures { IfOk result (λ n. n ≤ length buffer.old) }
 {
     let mut done: usize = 0;
+    // No index counted by hand: a read takes as many bytes as there are.
     while done < buffer.len() {
         let more = read_some(reader, &mut buffer[done..])?;
         if more == 0 {

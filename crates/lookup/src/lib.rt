@@ -1,4 +1,5 @@
-// The table's entries by code.
+// The table's entries by code. Each column has its function, one call of `entry`: they answer different kinds, and a generic one would only move the names
+// to its callers.
 
 #![tactic(auto)]
 

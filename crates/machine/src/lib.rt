@@ -5,7 +5,7 @@
 ghost use Rattle.std.specs.Prelude.{◌≡◌};
 ghost use Rattle.machine.specs.Types.{status_number, fault_number, faulty, codes_number, codes_from};
 
-// The codes that a rule names by themselves.
+// The codes that a rule names by themselves. They stay numbers, as document 01 has them: a record made by hand may hold any code, and is refused.
 pub const HALT: u8 = 0;
 
 pub const NOP: u8 = 1;
@@ -22,7 +22,7 @@ pub const RET: u8 = 9;
 
 pub const IADDQ: u8 = 12;
 
-// Registers 0 to 14, of which 4 is rsp; "15 means none".
+// Registers 0 to 14, of which 4 is rsp; "15 means none": document 01's own number, which a record made by hand may pass.
 pub const REGISTERS: usize = 15;
 
 pub const RSP: u8 = 4;

@@ -1,5 +1,5 @@
 // The code meets the promises that the crate cases speaks of: each open operation, called, fits its own. A contract of theirs that said less
-// would fail here.
+// would fail here. Each is one call, and alike for that, since each operation is to be named.
 
 #![tactic(auto)]
 

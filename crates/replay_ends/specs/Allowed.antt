@@ -1,15 +1,11 @@
 -- What holds where a replay is not refused. Assumes nothing.
-use Rattle.std.specs.Prelude.{◌≡◌, refl, Bool, true, false, cond, not, ◌||◌, ℕ, ◌≤◌, eqb, ltb, Result, Option, None, Some, is_none}
+use Rattle.std.specs.Prelude.{◌≡◌, refl, Bool, true, false, cond, not, ◌||◌, ℕ, ◌≤◌, eqb, ltb, Option, None, Some, is_none}
 use Rattle.std.proofs.Common.{sym, ◌∙◌, eqb-true, ltb-false}
 use Rattle.std.proofs.lemmas.Bool.{not-false}
 use Rattle.laws.specs.Tests.{neither}
 use Rattle.machine.specs.Runs.{size_refused, budget_refused, window_refused, lowest}
 use Rattle.clocked.specs.PipeRuns.{settings_refused, pipe_limit}
 use Rattle.clocked.specs.declared.Settings.{Settings}
-use Rattle.std.specs.Result.{IsErrAnd}
-use Rattle.std.proofs.lemmas.Result.{err_from_is_err_and}
-use Rattle.answers.specs.declared.Refusal.{Refusal}
-use Rattle.answers.specs.Numbers.{refusal_number, number_of}
 use Rattle.answers.specs.Refusals.{failed}
 use Rattle.replay_ends.specs.declared.settings.Numbers.{Numbers}
 use Rattle.replay_ends.specs.Ends.{settings_of, window_of, numbers_refused, replay_refusal}
@@ -51,10 +47,6 @@ in_range n size h =
     let b = neither (ltb 1 n.windowed) _ a.1 in
     let c = neither (ltb 2 n.rule) _ b.1 in
     record { settings = c.0; window = c.1; rule = ltb-false 2 n.rule c.0 }
-
--- a refusal that `?` hands on is the same
-pub handed : (o : Result (Unit {0}) Refusal) (why : Refusal) → IsErrAnd o (λ x. x ≡ why) → number_of o ≡ refusal_number why
-handed o why h = let p = err_from_is_err_and o h in rw (p.1, p.2)
 
 -- what is chosen by numbers: nothing where they are out of their range, and else their settings
 module _ (m : Numbers) (size : ℕ) (o : Option Settings) (e : o ≡ cond (numbers_refused m size) None (Some (settings_of m))) where

@@ -49,7 +49,7 @@ pub fn write_report(number: u64, end: Pipeline, out: &mut [u8; 652]) -> usize
     writer.length()
 }
 
-// The program holds at most 4,096 bytes, whatever the engines take.
+// The program holds at most 4,096 bytes, whatever the engines take: a test as short as `answers::size_refused`, and of another document's number.
 #[tactic(auto, unfolding(crate::specs::Report::image_refused))]
 pub fn image_refused(size: usize) -> bool
     ensures { result ≡ image_refused size }

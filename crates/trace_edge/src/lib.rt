@@ -87,7 +87,7 @@ fn checked(
     Ok(())
 }
 
-// A station's trace, checked from a fresh start (#108).
+// A station's trace, checked from a fresh start (#108). The answer is a number, as the C interface has it.
 pub fn check_trace(
     image: &[u8],
     registers: &[u8],

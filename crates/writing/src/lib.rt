@@ -25,6 +25,7 @@ pub fn put_listing(out: &mut Writer<'_>, memory: &[u8], start: u64, end: u64)
 {
     let mut at = start;
     let mut cut = false;
+    // No index counted by hand: a line takes as many bytes as its instruction.
     while at < end {
         let next = reach(memory, at, end, cut);
         put_line(out, memory, at, next.count, next.whole);

@@ -46,7 +46,7 @@ fn try_encode(bytes: &mut [u8], told: &mut [u8], i: Fields) -> Result<(), Refusa
 pub fn encode(bytes: &mut [u8], told: &mut [u8], i: Fields) -> u64
     ensures { written result bytes.new told.new ≡ encoded bytes.old told.old i }
 {
-    answers::number(try_encode(bytes, told, i))
+    try_encode(bytes, told, i).err().map_or(0, u64::from)
 }
 
 // Refusal 7: the range goes backwards, or past memory.
@@ -111,5 +111,7 @@ pub fn write_listing(memory: &[u8], text: &mut [u8], told: &mut [u8], start: u64
     ensures { written result text.new told.new
         ≡ listing_written memory.now text.old told.old start end }
 {
-    answers::number(try_write_listing(memory, text, told, start, end))
+    try_write_listing(memory, text, told, start, end)
+        .err()
+        .map_or(0, u64::from)
 }

@@ -1,7 +1,8 @@
 -- A refusal by `refuses`; else what was let in is run and written back, by `replays`.
 use Rattle.answers.specs.Numbers.{numbered}
 use Rattle.clocked.specs.Prediction.{as_in_01}
-use Rattle.replay_ends.specs.Allowed.{allowed, handed}
+use Rattle.answers.specs.Numbers.{refused_on}
+use Rattle.replay_ends.specs.Allowed.{allowed}
 use Rattle.replay_ends.specs.Ends.{result_words}
 use Rattle.edge.specs.Edge.{replayed}
 use Rattle.edge.proofs.Ways.{refuses, replays, as_in_01_lem}
@@ -14,7 +15,7 @@ use Rattle.edge.proofs.replayed.Goals as goal
 pub returns-in_err-let_in : goal.returns-in_err-let_in
 unfolding replayed
 returns-in_err-let_in c =
-    rw (handed _ _ c.from_residual.ensures.1) (refuses _ result_words _ as_in_01 _ _ _ _ _ _ _ c.in_err-let_in.ensures.number (numbered _))
+    rw (refused_on _ _ c.from_residual.ensures.1) (refuses _ result_words _ as_in_01 _ _ _ _ _ _ _ c.in_err-let_in.ensures.number (numbered _))
 
 pub replay-end-requires : goal.replay-end-requires
 replay-end-requires c =

@@ -1,6 +1,7 @@
 -- A refusal by `refuses`; else what was let in is run and written back, by `replays`.
 use Rattle.answers.specs.Numbers.{numbered}
-use Rattle.replay_ends.specs.Allowed.{allowed, handed, is_chosen, which_chosen}
+use Rattle.answers.specs.Numbers.{refused_on}
+use Rattle.replay_ends.specs.Allowed.{allowed, is_chosen, which_chosen}
 use Rattle.replay_ends.specs.Ends.{full_words}
 use Rattle.edge.proofs.Ways.{replays, as_chosen, refused_as_chosen}
 use borrow.Author.Rules.{rules}
@@ -11,7 +12,7 @@ use Rattle.edge.proofs.replayed_set.Goals as goal
 
 pub returns-in_err-settings : goal.returns-in_err-settings
 returns-in_err-settings c =
-    rw (handed _ _ c.from_residual.ensures.1)
+    rw (refused_on _ _ c.from_residual.ensures.1)
     (refused_as_chosen _ _ _ _ _ _ _ _ (is_chosen _ _ _ c.settings.ensures) _ c.in_err-settings.ensures.number (numbered _))
 
 pub replay-end-requires : goal.replay-end-requires

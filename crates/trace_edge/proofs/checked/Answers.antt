@@ -1,5 +1,5 @@
 use Rattle.answers.specs.Numbers.{numbered}
-use Rattle.replay_ends.specs.Allowed.{handed}
+use Rattle.answers.specs.Numbers.{refused_on}
 use Rattle.trace_edge.proofs.Ways.{refuses, lets, fresh, done, kind_mapped}
 use mathlib.Core.Path.{refl}
 use native.Mathlib.Omega.{arith}
@@ -7,7 +7,7 @@ use Rattle.trace_edge.proofs.checked.Goals as goal
 
 pub returns-in_err-settings : goal.returns-in_err-settings
 returns-in_err-settings c =
-    rw (handed _ _ c.from_residual.ensures.1)
+    rw (refused_on _ _ c.from_residual.ensures.1)
     (refuses c.args.image.now c.args.registers.now c.args.trace.now c.args.copy.now c.args.verdict.now _ _ _ _ c.settings.ensures _ c.in_err-settings.ensures.number (numbered _))
 
 pub read_registers-requires : goal.read_registers-requires
