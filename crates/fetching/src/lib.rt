@@ -186,7 +186,7 @@ pub fn blame_of(window: Window, memory: &[u8], i: Instruction) -> Blame
 }
 
 // The open entry: the instruction, or refusal 1, which gives back the nop that a fetch outside memory gives.
-#[tactic(auto, using(crate::proofs::Parse::refused, crate::proofs::Parse::answered))]
+#[tactic(auto, unfolding(machine::specs::Runs::fetch_answer, machine::specs::Runs::lowest))]
 pub fn fetch(memory: &[u8], address: u64) -> Result<Fetched, Refused<Fetched>>
     ensures { fetched_as (number_in result) (record_in result) ≡ fetch_answer (lent memory.now) address }
 {
