@@ -15,12 +15,10 @@ use Rattle.machine.specs.declared.Fault.{Fault}
 use Rattle.machine.specs.Types.{Option, no_fault, faulty}
 use Rattle.machine.specs.declared.Fault.TheVariants.{FirstMissing as first_missing, NoCode as no_code, NoFunction as no_function}
 use Rattle.machine.specs.declared.Fault.TheVariants.{LaterMissing as later_missing, NoRegister as no_register}
-use Rattle.machine.specs.declared.Blame.{Blame}
 use Rattle.machine.specs.Words.{sum, number}
 use Rattle.machine.specs.Memory.{Memory, lent, through as seen, size, seen_to, code_end, inside, load}
 use Rattle.machine.specs.Table.{row_of, RegisterByte, no_byte, both_named, only_b, only_a}
-use Rattle.machine.specs.Fetch.{stopping, not_in_table, names_a, names_b, misnamed, half, checked, fetch, blame_of}
-use Rattle.machine.specs.Runs.{size_refused, lowest, fetch_answer}
+use Rattle.machine.specs.Fetch.{stopping, not_in_table, names_a, names_b, misnamed, half, checked, fetch}
 use Rattle.published.specs.Lengths.{has_register_byte, length_rule, two}
 use Rattle.published.specs.Fetching.{M₁, M₈, aok_at, fetch_is}
 use Rattle.lookup.specs.declared.kinds.RegisterByte.{RegisterByte as Kind}
@@ -178,14 +176,3 @@ constant_there b at n c fits long e = cc (lt-ltb 8 n long, lt-ltb (at + (n - 8) 
 
 pub no_constant : (b : List ℕ) (at n : ℕ) → n ≤ 8 → 0 ≡ cond (ltb 8 n) (number 8 b (at + (n - 8))) 0
 no_constant b at n short = cc (le-ltb 8 n short)
-
--- THE OPEN ENTRY
-pub refused : (m : Memory) (a : ℕ) (t : Bool) (i : Instruction) (x : Blame) → t ≡ size_refused (size m) → t ≡ true → i ≡ stopping a adr (faulty first_missing) → x ≡ blame_of m i
-    → record { number = 1; instruction = i; blame = x } ≡ fetch_answer m a
-unfolding fetch_answer lowest
-refused m a t i x e h s b = cc
-
-pub answered : (m : Memory) (a : ℕ) (t : Bool) (i : Instruction) (x : Blame) → t ≡ size_refused (size m) → t ≡ false → i ≡ fetch m a → x ≡ blame_of m i
-    → record { number = 0; instruction = i; blame = x } ≡ fetch_answer m a
-unfolding fetch_answer lowest
-answered m a t i x e h s b = cc

@@ -8,15 +8,16 @@ ghost use Rattle.machine.specs.Words.{number};
 ghost use Rattle.machine.specs.Types.{faulty};
 ghost use Rattle.machine.specs.declared.Fault.TheVariants.{NoCode as no_code, NoFunction as no_function};
 ghost use Rattle.machine.specs.Fetch.{fetch as fetch_of, stopping as stopping_of, misnamed as misnamed_of, fault_at, blame_of};
-ghost use Rattle.machine.specs.Runs.{fetch_answer};
+ghost use Rattle.machine.specs.Runs.{fetch_answer, fetched_as};
 ghost use Rattle.machine.specs.Table.{no_byte};
+ghost use Rattle.answers.specs.Numbers.{number_in, record_in};
 ghost use Rattle.lookup.specs.Kinds.{byte_meant};
 ghost use Rattle.fetching.specs.Halves.{filled as filled_of};
 
-use answers::size_refused;
+use answers::{Refusal, Refused, size_refused};
 use lookup::kinds::RegisterByte;
 use lookup::{byte_of, functions_of, size_of};
-use machine::{Blame, Fault, FetchAnswer, HALT, Instruction, NONE, NOP, Status, Window};
+use machine::{Blame, Fault, Fetched, HALT, Instruction, NONE, NOP, Status, Window};
 
 // An instruction fetched with a bad status travels as a nop with that status and its reason.
 fn stopping(address: u64, status: Status, fault: Option<Fault>) -> Instruction
@@ -184,22 +185,23 @@ pub fn blame_of(window: Window, memory: &[u8], i: Instruction) -> Blame
     }
 }
 
-// The open entry: refusal 1, with the nop that a fetch outside memory gives, or 0 and the instruction.
-pub fn fetch(memory: &[u8], address: u64) -> FetchAnswer
-    ensures { result ≡ fetch_answer (lent memory.now) address }
+// The open entry: the instruction, or refusal 1, which gives back the nop that a fetch outside memory gives.
+#[tactic(auto, unfolding(machine::specs::Runs::fetch_answer, machine::specs::Runs::lowest))]
+pub fn fetch(memory: &[u8], address: u64) -> Result<Fetched, Refused<Fetched>>
+    ensures { fetched_as (number_in result) (record_in result) ≡ fetch_answer (lent memory.now) address }
 {
     if size_refused(memory.len()) {
+        let why = Refusal::MemorySize;
         let missing = stopping(address, Status::Adr, Some(Fault::FirstMissing));
-        return FetchAnswer {
-            number: 1,
+        let given = Fetched {
             instruction: missing,
             blame: blame_of(None, memory, missing),
         };
+        return Err(Refused { why, given });
     }
     let instruction = instruction_at(None, memory, address);
-    FetchAnswer {
-        number: 0,
+    Ok(Fetched {
         instruction,
         blame: blame_of(None, memory, instruction),
-    }
+    })
 }

@@ -1,6 +1,6 @@
 -- Budgets, logs, answers: the tests that refusals share, and what fetching, a fresh start and the plain run give back, refusals included.
 use Rattle.std.specs.Prelude.{ℕ, ◌+◌, Bool, false, cond, ◌||◌, List, [], ◌∷◌, ltb, leb, eqb, length}
-use Rattle.machine.specs.Types.{Window, no_window, within, Machine, Codes, FetchAnswer, adr, faulty, first_missing}
+use Rattle.machine.specs.Types.{Window, no_window, within, Machine, Codes, Instruction, Blame, Fetched, adr, faulty, first_missing}
 use Rattle.machine.specs.Memory.{Memory, size, through, Registers}
 use Rattle.machine.specs.Fetch.{fetch, blame_of, stopping}
 use Rattle.machine.specs.Plain.{Plain, plain_of, plain_start, steps}
@@ -38,6 +38,15 @@ start_refused size a = leb size a
 unfoldable pub lowest : List (ℕ × Bool) → ℕ
 lowest [] = 0
 lowest (t ∷ ts) = cond t.1 t.0 (lowest ts)
+
+-- an answer to fetching: the number, the instruction, and what a bad fetch is blamed on
+pub record FetchAnswer : Type 0 where
+  pub number : ℕ
+  pub instruction : Instruction
+  pub blame : Blame
+
+abbrev pub fetched_as : ℕ → Fetched → FetchAnswer
+fetched_as n f = record { number = n; instruction = f.instruction; blame = f.blame }
 
 -- FETCHING, which has no record to give back: refused, it answers the nop that a fetch outside memory gives
 unfoldable pub fetch_answer : Memory → ℕ → FetchAnswer

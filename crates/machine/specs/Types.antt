@@ -9,7 +9,7 @@ pub use Rattle.machine.specs.declared.Blame.{Blame}
 pub use Rattle.machine.specs.declared.Codes.{Codes}
 pub use Rattle.machine.specs.declared.Machine.{Machine}
 pub use Rattle.machine.specs.declared.Instruction.{Instruction}
-pub use Rattle.machine.specs.declared.FetchAnswer.{FetchAnswer}
+pub use Rattle.machine.specs.declared.Fetched.{Fetched}
 pub use Rattle.machine.specs.declared.Decoded.{Decoded}
 pub use Rattle.machine.specs.declared.Executed.{Executed}
 pub use Rattle.machine.specs.declared.Accessed.{Accessed}

@@ -152,10 +152,9 @@ pub struct Instruction {
     pub fault: Option<Fault>,
 }
 
-// What fetching answers: document 01's number, 0 or that of a refusal, the instruction, and what a bad fetch is blamed on.
+// What fetching gives back: the instruction, and what a bad fetch is blamed on.
 #[derive(Clone, Copy)]
-pub struct FetchAnswer {
-    pub number: u64,
+pub struct Fetched {
     pub instruction: Instruction,
     pub blame: Blame,
 }

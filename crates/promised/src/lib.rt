@@ -5,7 +5,7 @@
 
 ghost use Rattle.std.specs.Prelude.{[]};
 ghost use Rattle.machine.specs.Memory.{lent};
-ghost use Rattle.machine.specs.Runs.{plain_answer};
+ghost use Rattle.machine.specs.Runs.{fetched_as, plain_answer};
 ghost use Rattle.clocked.specs.PipeRuns.{pipe_answer};
 ghost use Rattle.listing.specs.Reading.{answered};
 ghost use Rattle.day_edge.specs.Days.{day_at};
@@ -24,10 +24,10 @@ ghost use Rattle.cases.specs.Promises.{day_judged, day_exported, instruction_enc
 
 use answers::Refused;
 use clocked::{Pipeline, Settings};
-use machine::{Codes, FetchAnswer, Machine, REGISTERS, Window};
+use machine::{Codes, Fetched, Machine, REGISTERS, Window};
 
-fn fetch(memory: &[u8], address: u64) -> FetchAnswer
-    ensures { Fits fetching (lent memory.now, address) result }
+fn fetch(memory: &[u8], address: u64) -> Result<Fetched, Refused<Fetched>>
+    ensures { Fits fetching (lent memory.now, address) (fetched_as (number_in result) (record_in result)) }
 {
     fetching::fetch(memory, address)
 }

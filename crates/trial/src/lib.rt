@@ -16,11 +16,10 @@ use blocks_out::writing::{put_fault_address, put_instruction, put_machine, put_p
 #[unsafe(no_mangle)]
 pub extern "C" fn trial_fetch(memory: &mut [u8], address: u64, block: &mut [u64]) -> u64 {
     let answer = fetching::fetch(memory, address);
-    let instruction = answer.instruction;
-    let blame = answer.blame;
-    put_instruction(block, 0, instruction);
-    put_fault_address(block, blame);
-    answer.number
+    let fetched = record_of(answer);
+    put_instruction(block, 0, fetched.instruction);
+    put_fault_address(block, fetched.blame);
+    number_of(answer)
 }
 
 // A fresh machine record in memory of that size, with the window, registers and codes that the block holds; refused, the block stays.
