@@ -24,9 +24,8 @@ impl MemoryAccess {
     fn new(x: Executed) -> MemoryAccess
         ensures { result.of ≡ x }
     {
-        let i = x.instruction;
         MemoryAccess {
-            kind: accesses_of(i.code),
+            kind: accesses_of(x.instruction.code),
             of: x,
         }
     }
@@ -47,10 +46,9 @@ impl MemoryAccess {
         ensures { result ≡ stored_word self.of }
     {
         let x = self.of;
-        let i = x.instruction;
         let kept = x.a;
         match self.kind {
-            Accesses::StoresNext => i.next,
+            Accesses::StoresNext => x.instruction.next,
             _ => kept,
         }
     }
@@ -59,13 +57,11 @@ impl MemoryAccess {
     fn status(self, memory: &[u8]) -> Status
         ensures { result ≡ access_status self.of (lent memory.now) }
     {
-        let x = self.of;
-        let i = x.instruction;
         let accesses = self.kind.loads() | self.kind.stores();
         if accesses & !word::inside(memory, self.address()) {
             return Status::Adr;
         }
-        i.status
+        self.of.instruction.status
     }
 
     // The word loaded, 0 where none is.
@@ -100,9 +96,8 @@ fn meets_window(window: Window, a: u64) -> bool
 fn accessed(x: Executed, word: u64, status: Status, patched: bool) -> Accessed
     ensures { result ≡ accessed_with x word status patched }
 {
-    let i = x.instruction;
     Accessed {
-        instruction: i,
+        instruction: x.instruction,
         result: x.result,
         holds: x.holds,
         word,
@@ -136,8 +131,7 @@ pub fn access_and_update(x: Executed, window: Window, memory: &mut [u8]) -> Acce
         × (through window (lent memory.new) ≡ new_memory x (through window (lent memory.old))) }
 {
     let access = MemoryAccess::new(x);
-    let i = x.instruction;
-    let status = i.status;
+    let status = x.instruction.status;
     match access.kind {
         Accesses::NoAccess => accessed(x, 0, status, false),
         _ => {

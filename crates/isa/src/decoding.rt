@@ -33,8 +33,7 @@ fn register(which: Which, i: Instruction) -> u8
 fn source(which: Which, i: Instruction) -> u8
     ensures { result ≡ cond (is_bad i.status) 15 (register_of (which_meant which) i) }
 {
-    let status = i.status;
-    if is_bad(status) {
+    if is_bad(i.status) {
         NONE
     } else {
         register(which, i)

@@ -75,8 +75,7 @@ pub fn new_codes(x: Decoded, codes: Codes) -> Codes
     ensures { result ≡ new_codes x codes }
 {
     let i = x.instruction;
-    let code = i.code;
-    match code {
+    match i.code {
         OPERATION => codes_of(i.function, x.a, x.b),
         IADDQ => codes_of(ADD, i.constant, x.b),
         _ => codes,
@@ -122,16 +121,14 @@ fn computed(kind: Computes, x: Decoded) -> u64
 fn result(x: Decoded) -> u64
     ensures { result ≡ result_of x }
 {
-    let i = x.instruction;
-    computed(computes_of(i.code), x)
+    computed(computes_of(x.instruction.code), x)
 }
 
 // Cnd: the condition of cmovXX and jXX.
 fn outcome(i: Instruction, codes: Codes) -> bool
     ensures { result ≡ outcome_of i codes }
 {
-    let code = i.code;
-    match code {
+    match i.code {
         CMOV | JUMP => condition(i.function, codes),
         _ => true,
     }
@@ -160,8 +157,7 @@ pub fn turned(i: Instruction, taken: bool) -> u64
 pub fn straight(i: Instruction) -> u64
     ensures { result ≡ straight_of i }
 {
-    let code = i.code;
-    match code {
+    match i.code {
         CALL => i.constant,
         _ => i.next,
     }
@@ -171,8 +167,7 @@ pub fn next_address(w: Accessed) -> u64
     ensures { result ≡ next_address w }
 {
     let i = w.instruction;
-    let code = i.code;
-    match code {
+    match i.code {
         RET => w.word,
         JUMP => turned(i, w.holds),
         _ => straight(i),

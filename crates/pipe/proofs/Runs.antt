@@ -11,7 +11,7 @@ use borrow.Author.Tests.{ltb-false}
 use Rattle.clock_laws.specs.Registers.{length_after_w}
 use Rattle.laws.specs.Tests.{neither}
 use Rattle.clock_laws.specs.Stops.{stays}
-use Rattle.answers.specs.Logs.{laid_more, laid_length}
+use Rattle.answers.specs.Logs.{laid_more}
 use Rattle.clocked.specs.declared.Settings.{Settings}
 use Rattle.clocked.specs.declared.Pipeline.{Pipeline}
 use Rattle.machine.specs.declared.Status.{Status}
@@ -30,7 +30,7 @@ use Rattle.clocked.specs.declared.Reason.TheVariants.{Waited as waited, WronglyG
 use Rattle.clocked.specs.Charges.{counted, reason_from}
 use Rattle.clocked.specs.Pipeline.{Piped, piped_of, bad_in_w, memory_after, registers_after, retired_after, kinds_after, logged, clock, clocks}
 use Rattle.machine.specs.Runs.{laid}
-use Rattle.clocked.specs.PipeRuns.{counts_refused, pipe_limit, PipeAnswer, pipe_answer, pipe_done}
+use Rattle.clocked.specs.PipeRuns.{counts_refused, pipe_limit, pipe_answer, pipe_done}
 use Rattle.retiring.specs.declared.Tally.{Tally}
 use Rattle.retiring.specs.Retiring.{Small, retires, status_after, tally_after}
 use Rattle.flow.specs.declared.Flow.{Flow}
@@ -193,12 +193,3 @@ module _ {s : Settings} {p₀ : Piped} {k : Pipeline} {first : ℕ} {a₀ y₀ :
       let bad : is_bad (clocks (core_of s) p₀ n).pipeline.status ≡ true = rw h.state b in
       let e : budget - n + n ≡ budget = omega arith in
       cc (stays (core_of s) p₀ n (budget - n) bad)
-
--- the logs keep their lengths
-pub same_lengths : (k : Pipeline) (m : Memory) (a y a₀ y₀ : List ℕ) (p : Piped) → pipe_answer 0 k m a y ≡ pipe_done p a₀ y₀
-    → (length a ≡ length a₀) × (length y ≡ length y₀)
-unfolding pipe_done
-same_lengths k m a y a₀ y₀ p e = (
-  ap (λ (t : PipeAnswer). length t.addresses) e ∙ laid_length p.address_log a₀,
-  ap (λ (t : PipeAnswer). length t.cycles) e ∙ laid_length p.cycle_log y₀,
-)

@@ -89,8 +89,7 @@ pub fn refusal(pipeline: Pipeline, size: usize, budget: u64, short: bool) -> Res
     if short {
         return Err(Refusal::ShortBlock);
     }
-    let settings = pipeline.settings;
-    if record_refused(pipeline) | window_refused(settings.window, size) {
+    if record_refused(pipeline) | window_refused(pipeline.settings.window, size) {
         return Err(Refusal::BadRecord);
     }
     Ok(())

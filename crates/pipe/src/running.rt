@@ -121,8 +121,7 @@ pub fn looped(
     let mut tally = tally_of(pipeline);
     let mut status = pipeline.status;
     let mut blame = pipeline.blame;
-    let mut done: u64 = 0;
-    while done < budget {
+    for _done in 0..budget {
         if is_bad(status) {
             break;
         }
@@ -133,7 +132,6 @@ pub fn looped(
         status = status_after(w);
         note(retired, place, tally.last, addresses);
         note(retired, place, tally.cycles, cycles);
-        done += 1;
         if bad_in_w(w) {
             blame = blame_in(settings, w, memory);
             break; // everything else stays as it stood

@@ -86,14 +86,11 @@ fn still_kept(kept: Kept) -> Kept
 {
     match kept {
         None => None,
-        Some(k) => {
-            let i = k.instruction;
-            Some(Retired {
-                instruction: afresh(i),
-                holds: k.holds,
-                patched: k.patched,
-            })
-        }
+        Some(k) => Some(Retired {
+            instruction: afresh(k.instruction),
+            holds: k.holds,
+            patched: k.patched,
+        }),
     }
 }
 
