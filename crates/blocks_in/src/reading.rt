@@ -1,4 +1,4 @@
-// Records from the words of a block.
+// Records from the words of a block. Blocks, parts and places, and functions alike by stage, are the C interface of `trial`.
 use crate::layout::{
     ADDRESS, CODE, CONSTANT, COUNT, CYCLES, D, E, E_A, E_B, END, FAULT, FAULT_ADDRESS, FIRST,
     FUNCTION, KEPT, KEPT_HOLDS, KEPT_PATCHED, LAST, LATE, LOADUSE, M, M_A, M_HOLDS, M_RESULT,
@@ -27,7 +27,7 @@ fn truth_at(block: &[u64], part: u64, place: u64) -> bool {
     word_at(block, part, place) % 2 == 1
 }
 
-// The status whose number the word is; any other word reads AOK.
+// The status whose number the word is; any other word reads AOK, so that no TryFrom would do.
 fn status_at(block: &[u64], part: u64, place: u64) -> Status {
     let number = word_at(block, part, place);
     let stopped = [Status::Hlt, Status::Adr, Status::Ins];

@@ -1,4 +1,4 @@
-// Records into the words of a block.
+// Records into the words of a block. Blocks, parts and places, and functions alike by stage, are the C interface of `trial`.
 use blocks_in::layout::{
     ADDRESS, CODE, CONSTANT, COUNT, CYCLES, D, E, E_A, E_B, END, FAULT, FAULT_ADDRESS, FIRST,
     FUNCTION, KEPT, KEPT_HOLDS, KEPT_PATCHED, LAST, LATE, LOADUSE, M, M_A, M_HOLDS, M_RESULT,

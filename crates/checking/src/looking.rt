@@ -40,6 +40,7 @@ pub fn value_after(registers: [u64; REGISTERS], w: Accessed, q: u8) -> u64
     value(&after, q)
 }
 
+// Document 01's decision by kind; no conversion, since two kinds have one number.
 #[tactic(auto, unfolding(clocked::specs::Charges::amount))]
 pub fn charge_of(reason: Option<Reason>) -> u64
     ensures { (result ≡ amount reason) × (result ≤ 3) }

@@ -34,7 +34,7 @@ fn hits(store: Option<u64>, address: u64, end: u64, n: u64) -> bool
     }
 }
 
-// One of the three wrote a byte of the instruction at the address.
+// One of the three wrote a byte of the instruction at the address. Memory is a lent slice, whose size `check` asks for once.
 #[tactic(auto, using(crate::proofs::Ways::outside), unfolding(crate::specs::Stores::touched_by, machine::specs::Fetch::size_at))]
 fn touched(stores: Stores, memory: &[u8], address: u64) -> bool
     requires { length memory.now ≤ 65536 }

@@ -9,6 +9,7 @@ use lookup::kinds::Which;
 use lookup::{a_from, b_from, loaded_of, target_of};
 use machine::{CMOV, Instruction, NONE, REGISTERS, RSP, Status};
 
+// By its own name, since the contracts say `is_bad`; the comparison is the derived one.
 #[tactic(auto, unfolding(machine::specs::Types::is_bad))]
 pub fn is_bad(status: Status) -> bool
     ensures { result ≡ is_bad status }
@@ -40,6 +41,7 @@ fn source(which: Which, i: Instruction) -> u8
     }
 }
 
+// Sources and targets are a line each, by another column of the table.
 // The register that valA comes from.
 #[tactic(auto, unfolding(machine::specs::Stages::source_a))]
 pub fn source_a(i: Instruction) -> u8

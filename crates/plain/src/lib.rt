@@ -52,7 +52,7 @@ pub fn start(
     }
 }
 
-// The record with one register changed, as document 01 has it: 15 changes nothing.
+// The record with one register changed, returned as document 01 has it: 15 changes nothing.
 #[tactic(auto, unfolding(crate::specs::Records::with_register))]
 fn with_register(m: Machine, q: u8, v: u64) -> Machine
     ensures { result ≡ with_register m q v }
@@ -126,7 +126,7 @@ fn advance(m: Machine, memory: &mut [u8]) -> Machine
     after_performed(m, x, w)
 }
 
-// One instruction after another, up to a stop.
+// One instruction after another, up to a stop. That the count stays below the limit is asked and no invariant of the record, which a caller may make by hand.
 fn run_on(m: Machine, memory: &mut [u8], budget: u64, log: &mut [u64]) -> Machine
     requires { m.count + budget ≤ plain_limit }
     ensures { RunsTo m (lent memory.old) budget log.old result (lent memory.new) log.new }

@@ -2,6 +2,7 @@
 ghost use Rattle.std.specs.Prelude.{◌≡◌, ◌+◌, ◌*◌, ◌≤◌, ◌<◌, length};
 ghost use Rattle.text.specs.Hex.{is_hex, hex_value, all_hex, hex_number};
 
+// By its own name, since the definitions have it.
 #[tactic(auto, unfolding(crate::specs::Hex::is_hex))]
 pub fn is_digit(c: u8) -> bool
     ensures { result ≡ is_hex c }

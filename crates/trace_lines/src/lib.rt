@@ -72,7 +72,7 @@ pub fn write_line(line: Line, out: &mut [u8; 88]) -> usize
     writer.length()
 }
 
-// The text begins with the line.
+// The text begins with the line: the library's test, by the definition's name.
 pub fn begins(line: &[u8], text: &[u8]) -> bool
     ensures { result ≡ begins_of line.now text.now }
 {
