@@ -207,6 +207,10 @@ module _ (g : Core) (k : Machine) (m₀ : Memory) (trace : List ℕ) where
           omega (arith, further b d),
         )
 
+    -- no line counts past the limit: a right one goes on from a count that is below it, a wrong one leaves the record
+    pub counted : (next : Checking) → r ≡ Ok next → Checked g trace c m r m' → next.machine.count ≤ 65536
+    counted next z p = (goes_on_lem next z p).0.few
+
 -- what a check starts from is not refused: the size and the window stay so
 pub record Fresh (k : Machine) (bytes : List ℕ) : Type 0 where
   pub none_performed : k.count ≡ 0

@@ -58,6 +58,6 @@ pub fn written_into(window: Window, stores: Stores, memory: &[u8], address: u64)
 {
     match window {
         None => touched(stores, memory, address),
-        Some((_, _)) => false,
+        Some(_) => false,
     }
 }

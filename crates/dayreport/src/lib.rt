@@ -47,6 +47,7 @@ fn write_answer(answer: Result<Day, Refusal>, out: &mut [u8; 144]) -> usize
 fn report_request(request: Request, image: &mut [u8], out: &mut [u8; 144]) -> usize
     ensures { ◌≡◌ {A = ℕ × List ℕ × List ℕ} (result, out.new, image.new) (requested request image.old out.old) }
 {
+    // 5 and 4 are numbers of document 02's program alone (#114), written as such.
     if report::image_refused(image.len()) {
         return write_refusal(5, out);
     }

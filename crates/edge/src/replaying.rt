@@ -27,6 +27,7 @@ pub fn replay(
         Codes::from(asked.codes),
         asked.start,
     );
+    // Matched in place and not by `record_of`, so that the archive has the clock's loop once.
     let fresh = match started {
         Ok(fresh) => fresh,
         Err(refused) => refused.given,

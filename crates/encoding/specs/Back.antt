@@ -1,5 +1,5 @@
 -- "fetching those bytes gives it back" (02, #104), and two instructions with the same bytes are the same. Assumes nothing.
-use Rattle.std.specs.Prelude.{ℕ, zero, suc, ◌+◌, ◌-◌, ◌*◌, ◌/◌, ◌%◌, ◌^◌, ◌<◌, ◌≡◌, refl, Bool, true, false, ◌&&◌, ◌||◌, T, leb, ltb, eqb, get_or, drop}
+use Rattle.std.specs.Prelude.{ℕ, zero, suc, ◌+◌, ◌-◌, ◌*◌, ◌/◌, ◌%◌, ◌^◌, ◌<◌, ◌≡◌, refl, Bool, true, false, ◌&&◌, ◌||◌, T, leb, ltb, eqb, get_or, drop, ◌≤◌}
 use Rattle.std.proofs.Math.Path.{ap}
 use Rattle.std.proofs.Common.{sym, ◌∙◌, div-add-mod', pow-suc, arith, ltb→lt, length-append}
 use Rattle.std.proofs.Math.Bool.{cond}
@@ -87,6 +87,14 @@ form_length i =
     let p = pair_length row.byte i.ra i.rb in
     let t = tail_length row.size i.constant in
     simp length-append (omega (arith, p, t, length_rule i.code))
+
+-- at most ten bytes
+short_row : (code : ℕ) → T (ltb (row_of code).size 11)
+unfolding table
+short_row code = every_row (λ row. ltb row.size 11) tt tt code
+
+pub form_short : (i : Fields) → length (form i) ≤ 10
+form_short i = omega (arith, form_length i, ltb→lt (row_of i.code).size 11 (short_row i.code))
 
 -- the halves of the register byte, each below 16
 high : (y : RegisterByte) (a b : ℕ) (t : List ℕ) → (T (names_a y) → a < 15) → (T (names_b y) → b < 15)

@@ -32,7 +32,7 @@ fn tell(answer: Result<(), Unread>, fault: &mut [u8]) -> u64
 {
     match answer {
         Ok(()) => 0,
-        Err(Unread::Refused) => 1,
+        Err(Unread::Refused) => u64::from(Refusal::MemorySize),
         Err(Unread::Faulty(found)) => {
             write_words(fault, &[found.line, u64::from(found.kind)]);
             9

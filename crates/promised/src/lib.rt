@@ -1,5 +1,5 @@
 // The code meets the promises that the crate cases speaks of: each open operation, called, fits its own. A contract of theirs that said less
-// would fail here. Each is one call, and alike for that, since each operation is to be named.
+// would fail here. They are alike, since each has to call its operation by name.
 
 #![tactic(auto)]
 

@@ -40,7 +40,7 @@ fn put_report(out: &mut Writer<'_>, number: u64, end: Pipeline)
     }
 }
 
-// No report is longer than 652 bytes, so that it always fits. It takes any number, as it did, so that it may say what no engine answers.
+// No report is longer than 652 bytes, so that it always fits. It takes any number, not only an engine's.
 pub fn write_report(number: u64, end: Pipeline, out: &mut [u8; 652]) -> usize
     ensures { ◌≡◌ {A = ℕ × List ℕ} (result, out.new) (written (report number end) out.old) }
 {

@@ -18,7 +18,7 @@ pub fn put_number(out: &mut Writer<'_>, name: &[u8], v: u64)
     out.field(v, b'\n');
 }
 
-// A line a status; no Display, which writes to what may fail.
+// One line for each status. Not by Display, whose writer may fail.
 pub fn put_status(out: &mut Writer<'_>, status: Status)
     ensures { Put (status_line status) out.old out.new }
 {

@@ -66,9 +66,12 @@ put_both {s} {t} {a} {b} {c} p q =
 pub put_length : {t : List ℕ} {a b : Writer} → Put t a b → length b.buffer.now ≡ length a.buffer.now
 put_length {t} {a} p = ap length p.lent ∙ length-sets a.buffer.now a.at t
 
--- a text for which the buffer has no place
-pub put_past : {t : List ℕ} {a b : Writer} → Put t a b → length a.buffer.now ≤ a.at → b.buffer.now ≡ a.buffer.now
-put_past {t} {a} p h = p.lent ∙ sets_past t a.buffer.now a.at h
+-- a byte for which the buffer has no place is counted alone, and a text put there leaves the buffer as it was
+pub put_past : (x : ℕ) (w : Writer) → length w.buffer.now < 2 ^ 64 → length w.buffer.now ≤ w.at → Put (x ∷ []) w (record { buffer = w.buffer; at = counted w.at 1 })
+put_past x w r h = record { same = refl; room = r; lent = sym (set_out w.buffer.now w.at x h); place = refl }
+
+pub put_past_keeps : {t : List ℕ} {a b : Writer} → Put t a b → length a.buffer.now ≤ a.at → b.buffer.now ≡ a.buffer.now
+put_past_keeps {t} {a} p h = p.lent ∙ sets_past t a.buffer.now a.at h
 
 -- AT THE FRONT
 -- the length of a text that fits, and the buffer afterwards: the text, and then the rest as it was

@@ -17,6 +17,7 @@ impl Writer<'_> {
         self.decimal(n / 10);
         self.byte(b'0' + (n % 10) as u8);
     }
+
     // A decimal field with the byte that ends it.
     pub fn field(&mut self, n: u64, end: u8)
         ensures { Put (decimal n ++ end ∷ []) self.old self.new }

@@ -13,7 +13,7 @@ pub fn place(s: &[u8], c: u8) -> usize
     s.iter().position(|&x| x == c).unwrap_or(s.len())
 }
 
-// The place of the first c from a place on, or the length.
+// The place of the first c from a place on, or the length. No reader of ours asks it now; it stays, for no other function states its promise.
 pub fn place_from(s: &[u8], at: usize, c: u8) -> usize
     requires { at ≤ length s.now }
     ensures { (result ≡ at + length (before c (drop at s.now))) × (result ≤ length s.now) }

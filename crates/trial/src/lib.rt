@@ -1,6 +1,7 @@
 // For tests only: every entry of both engines with C linkage, on whole records in lent words, so that a test written in
 // another language can give any record, hand-made ones too, and read back the whole answer. It is no part of the
-// product: nothing that is shipped links it, and it decides nothing. Its parameters and the likeness of its functions are the C interface. What a block holds is said in `blocks_in`.
+// product: nothing that is shipped links it, and it decides nothing. Its functions are alike, and take
+// what they take, because that is the C interface. What a block holds is said in `blocks_in`.
 //
 // Its functions have no contract. They are proved to stay inside what they are lent and to return; what they answer is
 // compared with the second program, word for word, and a word read from or written to a wrong place shows there.

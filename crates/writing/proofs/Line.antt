@@ -23,11 +23,11 @@ use Rattle.writing.specs.Text.{noted, line_of}
 use Rattle.writing.specs.There.{there_at}
 use Rattle.writing.specs.Back.{address_length, pairs_length}
 
-register_length : (k : ℕ) → length (register k) ≤ 4
+pub register_length : (k : ℕ) → length (register k) ≤ 4
 unfolding register bytes
 register_length k = omega (arith, name_length k)
 
-operands_length : (o : Operands) (a b c : ℕ) → c < 2 ^ 64 → length (operands o a b c) ≤ 42
+pub operands_length : (o : Operands) (a b c : ℕ) → c < 2 ^ 64 → length (operands o a b c) ≤ 42
 unfolding operands bytes
 operands_length nothing a b c h = omega arith
 operands_length pair a b c h = simp length-append (omega (arith, register_length a, register_length b))
@@ -47,7 +47,7 @@ row_short [] k = omega arith
 row_short (r ∷ t) zero = omega arith
 row_short (r ∷ t) (suc k) = omega (arith, row_short t k)
 
-mnemonic_length : (code f : ℕ) → length (mnemonic code f) ≤ 6
+pub mnemonic_length : (code f : ℕ) → length (mnemonic code f) ≤ 6
 unfolding mnemonic mnemonics longest_row longest bytes
 mnemonic_length code f =
     let most : longest_row mnemonics ≡ 6 = refl in
@@ -62,7 +62,7 @@ module _ (m : Memory) (a : ℕ) (b : (i : ℕ) → Fits w8 (get_or m.bytes i 0))
       go true h = omega arith
       go false h = omega arith
 
-  remark_length : length (remark aok (there_at m a)) ≤ 48
+  pub remark_length : length (remark aok (there_at m a)) ≤ 48
   unfolding remark
   remark_length =
       let i = there_at m a in
