@@ -26,6 +26,7 @@ fn write_refusal(number: u64, out: &mut [u8; 144]) -> usize
     writer.length()
 }
 
+// As short as a function over what is put would be.
 fn write_day(day: Day, out: &mut [u8; 144]) -> usize
     ensures { ◌≡◌ {A = ℕ × List ℕ} (result, out.new) (written (day_lines day) out.old) }
 {

@@ -13,8 +13,8 @@ pub struct Request {
     pub image: usize,
 }
 
-#[tactic(auto, unfolding(crate::specs::Line::first_line, crate::specs::Line::first_of, crate::specs::Line::second_of, crate::specs::Line::third_of))]
 // None is a bad first line.
+#[tactic(auto, unfolding(crate::specs::Line::first_line, crate::specs::Line::first_of, crate::specs::Line::second_of, crate::specs::Line::third_of))]
 pub fn read_line(input: &[u8]) -> Option<Request>
     ensures { result ≡ first_line input.now }
 {

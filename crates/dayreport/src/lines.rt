@@ -1,4 +1,4 @@
-// The six lines of a day.
+// The six lines of a day. Functions of one shape are no twins here: each has its own words.
 ghost use Rattle.std.specs.Prelude.{◌≤◌, length};
 ghost use Rattle.text.specs.Put.{Put};
 ghost use Rattle.dayreport.specs.Lines.{filed_line, peak_lines, total_lines, found_lines, missing_lines, day_lines};

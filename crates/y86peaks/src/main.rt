@@ -5,7 +5,7 @@
 use std::io;
 use std::io::Write;
 
-// The day of any line and image.
+// The day of any line and image. What differs from `y86run`, the sizes and the work, is here; the rest is in `input`.
 fn hand_over<W: Write>(bytes: &mut [u8], to: &mut W) -> io::Result<()> {
     let mut out = [0u8; 144];
     let n = dayreport::report_input(bytes, &mut out);

@@ -5,7 +5,7 @@
 use std::io;
 use std::io::Write;
 
-// Any image's report.
+// Any image's report. What differs from `y86peaks`, the sizes and the work, is here; the rest is in `input`.
 fn hand_over<W: Write>(image: &mut [u8], to: &mut W) -> io::Result<()> {
     let mut out = [0u8; 652];
     let n = report::report_image(image, &mut out);
