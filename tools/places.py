@@ -17,6 +17,13 @@ def line_of(text, at):
     return text.count("\n", 0, at) + 1
 
 
+def lines():
+    """File, line number and line of all."""
+    for f, text in FILES.items():
+        for n, l in enumerate(text.split("\n"), 1):
+            yield f, n, l
+
+
 def block(text, at):
     """The text between the brace at or behind `at` and its partner."""
     first = text.index("{", at)
@@ -91,10 +98,9 @@ KEYWORDS = {"let", "mut", "if", "else", "match", "while", "for", "in", "return",
 
 def point_3():
     """Loops that are no `for`."""
-    for f, text in FILES.items():
-        for n, l in enumerate(text.split("\n"), 1):
-            if re.match(r"\s*(while|loop)\b", l):
-                yield f, n, l.strip()
+    for f, n, l in lines():
+        if re.match(r"\s*(while|loop)\b", l):
+            yield f, n, l.strip()
 
 
 def point_4():
@@ -137,10 +143,9 @@ def point_6():
 
 def point_7():
     """Matches on a number that says which step to run."""
-    for f, text in FILES.items():
-        for n, l in enumerate(text.split("\n"), 1):
-            if re.match(r"\s*match (kind|shape|byte|which|row|rule)\b", l):
-                yield f, n, l.strip()
+    for f, n, l in lines():
+        if re.match(r"\s*match (kind|shape|byte|which|row|rule)\b", l):
+            yield f, n, l.strip()
 
 
 def point_8():

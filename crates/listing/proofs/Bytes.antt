@@ -13,11 +13,6 @@ pub record Puts (m₀ : List ℕ) (at : ℕ) (digits m : List ℕ) (k : ℕ) (le
   pub long : length m ≡ length m₀
   pub room : at + k + length left / 2 ≤ length m₀
 
-pub puts_none : (m : List ℕ) (at : ℕ) (digits left : List ℕ) → left ≡ digits → at + length digits / 2 ≤ length m → Puts m at digits m 0 left
-puts_none m at digits left e h =
-    let z : at + 0 ≡ at = omega arith in
-    record { rest = rw (e, z) refl; long = refl; room = rw e (omega arith) }
-
 -- fewer than two digits make no byte
 too_few : (l : List ℕ) → length l < 2 → hex_bytes l ≡ []
 unfolding hex_bytes
@@ -26,9 +21,6 @@ too_few (x ∷ []) h = refl
 too_few (x ∷ y ∷ l) h = absurd (omega arith)
 
 module _ (m₀ : List ℕ) (at : ℕ) (digits m : List ℕ) (k : ℕ) (left : List ℕ) (h : Puts m₀ at digits m k left) where
-  pub puts_room : 2 ≤ length left → at + k < length m
-  puts_room l = omega (arith, h.room, h.long)
-
   pub puts_more : (pair left' : List ℕ) (b : ℕ) → left ≡ pair ++ left' → length pair ≡ 2 → b ≡ 16 * hex_value (get_or pair 0 0) + hex_value (get_or pair 1 0)
       → Puts m₀ at digits (set m (at + k) b) (k + 1) left'
   unfolding hex_bytes

@@ -32,7 +32,7 @@ use Rattle.plain.specs.Records.{after_performed, after_stop, RunsTo}
 use Rattle.answers.specs.Refusals.{failed}
 use Rattle.laws.specs.Tests.{neither}
 use Rattle.laws.specs.Window.{written_through}
-use Rattle.answers.specs.Logs.{laid_more, laid_length, laid_none}
+use Rattle.answers.specs.Logs.{laid_more, laid_none}
 use Rattle.plain.specs.Steps.{bare, behind, seen, step_bare, step_logs, step_counts, still_on}
 
 -- ONE INSTRUCTION
@@ -65,7 +65,6 @@ pub record Goes (k : Machine) (m : Memory) (budget : ℕ) (l : List ℕ) (s : Ma
   pub counted : s.count + budget ≤ plain_limit + n
   pub within : n ≤ budget
   pub memory_long : size m' ≡ size m
-  pub log_long : length l' ≡ length l
 
 pub goes_first : (k : Machine) (m : Memory) (budget : ℕ) (l : List ℕ) → k.count + budget ≤ plain_limit → Goes k m budget l k (through no_window m) l 0
 unfolding steps laid
@@ -76,7 +75,6 @@ goes_first k m budget l h =
       counted = omega arith;
       within = omega arith;
       memory_long = refl;
-      log_long = refl;
     }
 
 module _ (k : Machine) (m : Memory) (budget : ℕ) (l : List ℕ) (s : Machine) (m₁ : Memory) (l₁ : List ℕ) (n : ℕ) (g : Goes k m budget l s m₁ l₁ n) where
@@ -122,7 +120,6 @@ module _ (k : Machine) (m : Memory) (budget : ℕ) (l : List ℕ) (s : Machine) 
         counted = omega (arith, g.counted, step_counts (plain_of s m₁), ap (λ (x : Machine). x.count) hs.0);
         within = omega arith;
         memory_long = long ∙ g.memory_long;
-        log_long = ap length log_is ∙ laid_length (step now).log l;
       }
 
   pub goes_over : is_bad s.status ≡ true → RunsTo k m budget l s m₁ l₁
@@ -135,11 +132,6 @@ module _ (k : Machine) (m : Memory) (budget : ℕ) (l : List ℕ) (s : Machine) 
         memory_is = g.so_far.memory_is ∙ sym (ap (λ (x : Plain). through no_window x.memory) same);
         log_is = g.so_far.log_is ∙ sym (ap (λ (x : Plain). laid x.log l) same);
       }
-
-  pub goes_out : budget ≤ n → RunsTo k m budget l s m₁ l₁
-  goes_out h =
-      let e : n ≡ budget = omega (arith, g.within) in
-      rw e at g.so_far
 
 -- THE ENTRIES, by the number that the check of the arguments gave
 module _ (k : Machine) (m : Memory) (budget : ℕ) (log : List ℕ) where
