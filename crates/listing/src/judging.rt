@@ -1,8 +1,10 @@
 // The first faulty line of a text, and its kind.
 ghost use Rattle.std.specs.Prelude.{◌≡◌, ◌+◌};
+ghost use Rattle.text.specs.PartsLaws.{FedLast};
 ghost use Rattle.listing.specs.Reading.{missing, lowest_kind, in_place, fault, checked, record_of, verdict};
 
 use super::{Fault, Kind};
+use crate::ending::end_of;
 use text::{hex, parts};
 
 // A field that is missing, or not hex.
@@ -47,9 +49,10 @@ fn check(line: &[u8], free: u64, size: u64) -> Result<u64, Kind>
 // A line with its line feed, which the last may lack.
 #[tactic(auto, using(crate::proofs::Judgement::not_ended, crate::proofs::Judgement::is_ended, text::proofs::Places::taken), unfolding(crate::specs::Reading::checked))]
 fn check_ended(line: &[u8], free: u64, size: u64) -> Result<u64, Kind>
+    requires { FedLast line.now }
     ensures { result ≡ checked size free line.now }
 {
-    let end = parts::place(line, parts::LINE_FEED);
+    let end = end_of(line);
     if line.len() <= end {
         return Err(Kind::Form);
     }

@@ -6,6 +6,7 @@ ghost use Rattle.text.specs.Hex.{hex_bytes};
 ghost use Rattle.listing.specs.Grammar.{end_of, laid};
 ghost use Rattle.listing.specs.Reading.{good, record_of, records, verdict};
 
+use crate::ending::unended;
 use text::{hex, parts};
 
 // The bytes of these digits, from an address on.
@@ -36,6 +37,6 @@ pub fn lay(text: &[u8], memory: &mut [u8])
     ensures { memory.new ≡ laid (records (lines text.now)) memory.old }
 {
     for line in text.split_inclusive(|b| *b == parts::LINE_FEED) {
-        lay_line(parts::part_before(line, parts::LINE_FEED), memory);
+        lay_line(unended(line), memory);
     }
 }

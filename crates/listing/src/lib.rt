@@ -2,6 +2,7 @@
 
 #![tactic(auto)]
 
+mod ending;
 mod judging;
 mod laying;
 

@@ -1,11 +1,11 @@
 -- Laws of parted texts. Assumes nothing.
-use Rattle.std.specs.Prelude.{◌≡◌, Bool, true, false, ◌||◌, ℕ, ◌+◌, ◌≤◌, ◌<◌, eqb, length, take, drop}
+use Rattle.std.specs.Prelude.{◌≡◌, Bool, true, false, cond, List, ◌||◌, ℕ, zero, suc, ◌+◌, ◌≤◌, ◌<◌, eqb, length, get_or, take, drop}
 use Rattle.std.proofs.Math.Path.{refl}
 use Rattle.std.proofs.Common.{ap, sym, ◌∙◌, arith, length-append, take_at, eqb-true, eq-eqb}
 use mathlib.Core.List.{[], ◌∷◌, ◌++◌}
 use Rattle.std.proofs.Math.Seq.{drop-append-add, take-length}
 use Rattle.laws.specs.Tests.{neither}
-use Rattle.text.specs.Parts.{Text, has, before, behind, line_feed, lines}
+use Rattle.text.specs.Parts.{Text, has, before, behind, longer, line_feed, lines}
 
 pub has_joined : (c : ℕ) (l m : Text) → has c (l ++ m) ≡ (has c l || has c m)
 unfolding has
@@ -117,3 +117,30 @@ lines_last x [] h = rw (neither (eqb x line_feed) false h).0 refl
 lines_last x (y ∷ t) h =
     let p = neither (eqb x line_feed) (has line_feed (y ∷ t)) h in
     rw p.0 (rw (lines_last y t p.1))
+
+-- A LINE'S LINE FEED stands last, if it has one: no byte of the line is behind it
+abbrev pub FedLast : Text → Type 0
+FedLast l = length l ≤ length (before line_feed l) + 1
+
+longer_fed : (x : ℕ) (ls : List Text) → eqb x line_feed ≡ false → ((n : ℕ) (d : Text) → n < length ls → FedLast (get_or ls n d)) → (n : ℕ) (d : Text)
+    → n < length (longer x ls) → FedLast (get_or (longer x ls) n d)
+unfolding before
+longer_fed x [] e h zero d l = rw e (omega arith)
+longer_fed x [] e h (suc n) d l = absurd (omega arith)
+longer_fed x (m ∷ ls) e h zero d l = let p = h 0 m (omega arith) in rw e (omega (arith, p))
+longer_fed x (m ∷ ls) e h (suc n) d l = h (suc n) d l
+
+pub fed_last : (t : Text) (n : ℕ) (d : Text) → n < length (lines t) → FedLast (get_or (lines t) n d)
+unfolding lines
+fed_last [] n d h = absurd (omega arith)
+fed_last (x ∷ t) n d h = go (eqb x line_feed) refl n d h (fed_last t)
+  where
+    ended : ((n : ℕ) (d : Text) → n < length (lines t) → FedLast (get_or (lines t) n d)) → (n : ℕ) (d : Text) → n < length ((x ∷ []) ∷ lines t)
+        → FedLast (get_or ((x ∷ []) ∷ lines t) n d)
+    ended ih zero d h = omega arith
+    ended ih (suc n) d h = ih n d (omega arith)
+
+    go : (b : Bool) → eqb x line_feed ≡ b → (n : ℕ) (d : Text) → n < length (cond b ((x ∷ []) ∷ lines t) (longer x (lines t)))
+        → ((n : ℕ) (d : Text) → n < length (lines t) → FedLast (get_or (lines t) n d)) → FedLast (get_or (cond b ((x ∷ []) ∷ lines t) (longer x (lines t))) n d)
+    go true e n d h ih = ended ih n d h
+    go false e n d h ih = longer_fed x (lines t) e ih n d h

@@ -5,8 +5,15 @@ use Rattle.std.proofs.lemmas.Iterator.Consumers.{YieldsList-from_enumerate, Yiel
 use Rattle.text.proofs.Lines.{YieldsList-from_split_inclusive, numbered}
 use Rattle.std.proofs.lemmas.List.FromFn.{length-enumerate_from}
 use Rattle.text.specs.Parts.{lines}
-use Rattle.listing.proofs.Judgement.{judges_none, judges_more, judges_all, wrong_line}
+use Rattle.listing.proofs.Judgement.{line_fed, judges_none, judges_more, judges_all, wrong_line}
 use Rattle.listing.proofs.judging.judge.Goals as goal
+
+pub check_ended-requires : goal.check_ended-requires
+check_ended-requires c =
+    let y = YieldsList-from_enumerate (YieldsList-from_split_inclusive _ c.args.text.now (cc) (cc) (λ x b q k. search (rules, tests))) (cc) in
+    let t = YieldsList-turn y c.loop-passed.yielded _ c.loop-passed.yielded_by _ _ (c.in-Some.passed, c.in-Some.line) c.in-Some.is c.next.ensures.steps in
+    let m = numbered _ _ _ _ t in
+    line_fed _ _ _ (m.0, m.2)
 
 pub returns-in_err-free : goal.returns-in_err-free
 returns-in_err-free c =
