@@ -10,7 +10,7 @@ use std::fs::File;
 use std::io::{ErrorKind, Write};
 use std::net::Shutdown;
 use std::os::fd::OwnedFd;
-use std::os::unix::net::UnixStream;
+use std::os::unix::net::{UnixDatagram, UnixStream};
 use std::path::{Path, PathBuf};
 use std::process::{Child, Command, Output, Stdio};
 use std::time::Duration;
@@ -219,4 +219,29 @@ fn an_output_that_cannot_be_written_is_told() {
         .expect("its output");
     let line = b"y86run: standard output cannot be written\n";
     assert_eq!(output.stderr, line);
+}
+
+/// A failure is told in one write, so that lines of other programs do not come
+/// between its words: each write to such a socket is a message of its own.
+#[test]
+fn a_failure_is_told_in_one_write() {
+    for program in ["y86run", "y86peaks"] {
+        let (ours, theirs) = UnixDatagram::pair().expect("a pair of sockets");
+        let folder = File::open(path("examples")).expect("a folder, which no one can read from");
+        let status = Command::new(path("target/bin").join(program))
+            .stdin(folder)
+            .stderr(OwnedFd::from(theirs))
+            .status()
+            .expect("its status");
+        assert!(status.success());
+        let patience = Some(Duration::from_secs(10));
+        ours.set_read_timeout(patience).expect("a socket");
+        let mut message = [0; 200];
+        let length = ours.recv(&mut message).expect("what it told");
+        let line = format!("{program}: standard input cannot be read\n");
+        assert_eq!(&message[..length], line.as_bytes());
+        ours.set_nonblocking(true).expect("a socket");
+        let more = ours.recv(&mut message).expect_err("nothing more");
+        assert_eq!(more.kind(), ErrorKind::WouldBlock);
+    }
 }

@@ -69,6 +69,15 @@ fn answer<R: Read, W: Write, F: FnOnce(&mut [u8], &mut W) -> io::Result<()>>(
     work(&mut buffer[..n], output).map_err(|_| Failure::Unwritten)
 }
 
+// A failure's line, in one write, so that what another process tells there does not come between. What passes 80 bytes is cut off.
+fn tell<E: Write>(name: &str, failure: Failure, errors: &mut E) -> io::Result<()> {
+    let mut line = [0u8; 80];
+    let mut free = &mut line[..];
+    let _ = writeln!(free, "{name}: {failure}");
+    let told = 80usize.saturating_sub(free.len());
+    errors.write_all(&line[..told])
+}
+
 // The whole program; a failure is told on the third stream.
 pub fn run<R: Read, W: Write, E: Write, F: FnOnce(&mut [u8], &mut W) -> io::Result<()>>(
     name: &str,
@@ -83,6 +92,6 @@ pub fn run<R: Read, W: Write, E: Write, F: FnOnce(&mut [u8], &mut W) -> io::Resu
         × (length x.now ≤ length buffer.old) × (y.now ≡ output.old) × (y'.now ≡ output.new) × F.post work x y r x' y') }
 {
     if let Err(failure) = answer(buffer, input, output, work) {
-        drop(writeln!(errors, "{name}: {failure}"));
+        drop(tell(name, failure, errors));
     }
 }
