@@ -27,12 +27,22 @@ fn truth_at(block: &[u64], part: u64, place: u64) -> bool {
     word_at(block, part, place) % 2 == 1
 }
 
+const STOPPED: [Status; 3] = [Status::Hlt, Status::Adr, Status::Ins];
+
+const FAULTS: [Fault; 5] = [
+    Fault::FirstMissing,
+    Fault::NoCode,
+    Fault::NoFunction,
+    Fault::LaterMissing,
+    Fault::NoRegister,
+];
+
 // The status whose number the word is; any other word reads AOK, so that no TryFrom would do.
 fn status_at(block: &[u64], part: u64, place: u64) -> Status {
     let number = word_at(block, part, place);
-    let stopped = [Status::Hlt, Status::Adr, Status::Ins];
-    stopped
-        .into_iter()
+    STOPPED
+        .iter()
+        .copied()
         .find(|s| u64::from(*s) == number)
         .unwrap_or(Status::Aok)
 }
@@ -40,14 +50,7 @@ fn status_at(block: &[u64], part: u64, place: u64) -> Status {
 // The fault whose number the word is; any other word reads none.
 fn fault_at(block: &[u64], part: u64, place: u64) -> Option<Fault> {
     let number = word_at(block, part, place);
-    let faults = [
-        Fault::FirstMissing,
-        Fault::NoCode,
-        Fault::NoFunction,
-        Fault::LaterMissing,
-        Fault::NoRegister,
-    ];
-    faults.into_iter().find(|f| u64::from(*f) == number)
+    FAULTS.iter().copied().find(|f| u64::from(*f) == number)
 }
 
 fn blame_in(block: &[u64], state: u64) -> Blame {

@@ -127,6 +127,8 @@ fn advance(m: Machine, memory: &mut [u8]) -> Machine
 }
 
 // One instruction after another, up to a stop. That the count stays below the limit is asked and no invariant of the record, which a caller may make by hand.
+// Not put into `run`: there the record was copied byte by byte at each instruction (docs/DESIGN-PASS.md).
+#[inline(never)]
 fn run_on(m: Machine, memory: &mut [u8], budget: u64, log: &mut [u64]) -> Machine
     requires { m.count + budget ≤ plain_limit }
     ensures { RunsTo m (lent memory.old) budget log.old result (lent memory.new) log.new }
