@@ -48,6 +48,20 @@ or_false : (b : Bool) → b ≡ b || false
 or_false true = refl
 or_false false = refl
 
+-- a named register is 15, by the case of the code's constant table
+unfoldable pub misnamed_by : Kind → (a b : ℕ) → Bool
+misnamed_by NoByte a b = false
+misnamed_by BothNamed a b = eqb a 15 || eqb b 15
+misnamed_by OnlyB a b = eqb b 15
+misnamed_by OnlyA a b = eqb a 15
+
+pub misnamed_by_lem : (y : Kind) (a b : ℕ) → misnamed_by y a b ≡ misnamed (byte_meant y) a b
+unfolding misnamed_by byte_meant misnamed names_a names_b
+misnamed_by_lem NoByte a b = refl
+misnamed_by_lem BothNamed a b = refl
+misnamed_by_lem OnlyB a b = refl
+misnamed_by_lem OnlyA a b = or_false (eqb a 15)
+
 -- the ways of `misnamed`
 module _ (y : Kind) (a b : ℕ) where
   pub none_named : y ≡ NoByte → false ≡ misnamed (byte_meant y) a b

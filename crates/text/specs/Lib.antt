@@ -1,6 +1,7 @@
 pub mod Bytes
 pub mod Decimal
 pub mod Put
+pub mod PutAt
 pub mod Hex
 pub mod HexLaws
 pub mod Parts

@@ -36,7 +36,7 @@ sets_both (x ∷ s) t b at =
     sets_both s t (set b at x) (suc at) ∙ ap (λ (i : ℕ). sets (sets (set b at x) (suc at) s) i t) e
 
 -- past the end nothing is set, and a count at the highest word is past it
-sets_past : (t b : List ℕ) (at : ℕ) → length b ≤ at → sets b at t ≡ b
+pub sets_past : (t b : List ℕ) (at : ℕ) → length b ≤ at → sets b at t ≡ b
 sets_past [] b at h = refl
 sets_past (x ∷ t) b at h = rw (set_out b at x h) (sets_past t b (suc at) (omega arith))
 
@@ -109,7 +109,7 @@ sets_none : (t : List ℕ) (at : ℕ) → sets [] at t ≡ []
 sets_none [] at = refl
 sets_none (x ∷ t) at = sets_none t (suc at)
 
-sets_laid : (t b : List ℕ) → sets b 0 t ≡ laid t b
+pub sets_laid : (t b : List ℕ) → sets b 0 t ≡ laid t b
 unfolding laid
 sets_laid [] b = refl
 sets_laid (x ∷ t) [] = sets_none t 1

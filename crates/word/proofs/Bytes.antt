@@ -8,13 +8,18 @@ use Rattle.std.specs.Array.{IsFirstChunk}
 use Rattle.std.specs.List.{slice_range}
 use Rattle.std.specs.Option.{MatchOption}
 use Rattle.std.specs.Int.{w64, from_le_bytes, to_le_bytes, bytes_low_first, byte_at}
-use Rattle.machine.specs.Memory.{lent, inside}
+use Rattle.machine.specs.Memory.{lent, inside, store}
 use Rattle.machine.specs.Words.{number, placed}
 
 -- a word inside of what is lent has its eight bytes there
 pub inside_room : (b : List ℕ) (a : ℕ) → inside (lent b) a ≡ true → a + 8 ≤ length b
 unfolding inside
 inside_room b a e = omega (arith, ltb-true (a + 7) (length b) e)
+
+-- a store inside of what is lent places the word
+pub store_inside : (b : List ℕ) (a : ℕ) (n : List ℕ) (v : ℕ) → inside (lent b) a ≡ true → n ≡ placed 8 b a v → lent n ≡ store (lent b) a v
+unfolding store
+store_inside b a n v e p = rw (e, p)
 
 -- what is left from a on: nothing, or a part of which the first eight bytes are the word's, if it has as many
 pub none_left : (b : List ℕ) (a : ℕ) → (length b < a) ⊎ (length b < length b) → inside (lent b) a ≡ false

@@ -1,3 +1,4 @@
--- Laws about words, over the width or the count of bytes.
+-- Laws about words, over the width, the modulus or the count of bytes.
 pub mod Bytes
 pub mod Overflow
+pub mod Wrapping
