@@ -15,8 +15,11 @@ fn returned_to(w: StageW, predicted: u64) -> u64
     ensures { result ≡ returned_to w predicted }
 {
     match w {
-        Some(x) if x.instruction.code == RET => x.word,
-        _ => predicted,
+        None => predicted,
+        Some(x) => match x.instruction.code {
+            RET => x.word,
+            _ => predicted,
+        },
     }
 }
 
