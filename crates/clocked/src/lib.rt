@@ -92,7 +92,7 @@ impl Carries for Instruction {
     ghost instruction_of = { λ i. i };
 
     fn instruction(self) -> Instruction {
-        self
+        self // in D an instruction stands by itself
     }
 }
 
@@ -161,10 +161,10 @@ impl Finished for Accessed {
     ghost holds_of = { λ w. w.holds };
 
     fn result(self) -> u64 {
-        self.result
+        self.result // and not the word that was loaded
     }
 
     fn holds(self) -> bool {
-        self.holds
+        self.holds // and not whether the window was written
     }
 }
